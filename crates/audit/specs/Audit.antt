@@ -1,0 +1,131 @@
+-- The audit of stage 2's tables against the granted frames (01, The audit).
+-- Assumes nothing.
+use mathlib.Core.Bool.{Bool, true, false, not, _&&_, _||_}
+use mathlib.Core.List.{List, [], _∷_}
+use Prim.Native.Nat.{ℕ, zero, suc, _+_, _-_, _*_, _/_, _%_, _^_}
+use lib.Dec.{ltb, leb, eqb}
+use lib.ListN.{length}
+use Rattle.descriptor.specs.Bits.{pick, upper}
+use Rattle.descriptor.specs.Program.{Request, stage-2}
+use Rattle.descriptor.specs.Entry.{shift, shape}
+use Rattle.descriptor.specs.declared.entry.Fetch.{Fetch}
+use Rattle.descriptor.specs.declared.entry.Fetch.the-variants.{Absent, Word}
+use Rattle.descriptor.specs.declared.entry.Geometry.{Geometry}
+use Rattle.descriptor.specs.declared.entry.Shape.{Shape}
+use Rattle.descriptor.specs.declared.entry.Shape.the-variants as Shape
+use Rattle.capture.specs.Capture.{memory}
+use Rattle.walk.specs.declared.answer.Refusal.{Refusal}
+use Rattle.walk.specs.declared.answer.Refusal.the-variants.{AuditLists, NoRoot}
+use Rattle.walk.specs.declared.stage.Root.{Root}
+use Rattle.walk.specs.declared.stage.Root.the-variants.{Unusable, Usable}
+use Rattle.walk.specs.declared.stage.Table.{Table}
+use Rattle.registers.specs.Settings.{stage2On, auditSettings}
+use Rattle.registers.specs.Roots.{root2}
+use Rattle.registers.specs.declared.El2.{El2}
+use Rattle.question.specs.Refusals.{Ground, refuse, highCapture, failing}
+use Rattle.audit.specs.Lists.{zip, wellFormed}
+use Rattle.audit.specs.declared.FindingKind.{FindingKind}
+use Rattle.audit.specs.declared.FindingKind.the-variants.{NotCaptured, TouchesGrant, UnlistedTable, OutsideGrants}
+use Rattle.audit.specs.declared.AuditAnswer.{AuditAnswer}
+use Rattle.audit.specs.declared.AuditAnswer.the-variants.{Clean, Found, Refused}
+
+-- the paper's numbers of the findings
+abbrev pub findingNumber : FindingKind → ℕ
+findingNumber NotCaptured = 1
+findingNumber TouchesGrant = 2
+findingNumber UnlistedTable = 3
+findingNumber OutsideGrants = 4
+
+abbrev pub found : FindingKind → ℕ → AuditAnswer
+found kind address = Found (record { kind = kind; address = address })
+
+-- the first that is not clean
+unfoldable pub orElse : AuditAnswer → AuditAnswer → AuditAnswer
+orElse Clean b = b
+orElse (Found f) b = Found f
+orElse (Refused r) b = Refused r
+
+-- ---- against the lists
+
+-- n bytes from a lie inside one grant
+unfoldable pub granted : List (ℕ × ℕ) → (a n : ℕ) → Bool
+granted [] a n = false
+granted (g ∷ l) a n = (leb (g .0) a && leb (a + n) (g .0 + g .1)) || granted l a n
+
+-- n bytes from a share a byte with some grant
+unfoldable pub touches : List (ℕ × ℕ) → (a n : ℕ) → Bool
+touches [] a n = false
+touches (g ∷ l) a n = (ltb a (g .0 + g .1) && ltb (g .0) (a + n)) || touches l a n
+
+unfoldable pub isListed : List (ℕ × ℕ) → (table level : ℕ) → Bool
+isListed [] table level = false
+isListed (t ∷ l) table level = (eqb (t .0) table && eqb (t .1) level) || isListed l table level
+
+-- ---- one table
+
+-- a stage 2 descriptor's read
+abbrev pub stage2Read : ℕ → Request
+stage2Read a = record { reader = stage-2; address = a }
+
+-- f at each of some entries from a on, ascending
+unfoldable pub eachEntry : (ℕ → AuditAnswer) → (entries a : ℕ) → AuditAnswer
+eachEntry f zero a = Clean
+eachEntry f (suc n) a = orElse (f a) (eachEntry f n (a + 8))
+
+-- an entry that is not in the capture: finding 1, of the table
+unfoldable pub missing : (table : ℕ) → Fetch → AuditAnswer
+missing table Absent = found NotCaptured table
+missing table (Word x) = Clean
+
+-- an entry x at an address, with n levels below it: its next table is listed one level on, or its range is inside a grant.
+-- Addresses count with all bits to 47, whatever else the entry holds.
+unfoldable pub examineAs : Geometry → (grants tables : List (ℕ × ℕ)) → (n at x : ℕ) → Shape → AuditAnswer
+examineAs g grants tables n at x Shape.Void = Clean
+examineAs g grants tables n at x Shape.Table = pick (isListed tables (upper x (g .granule)) (4 - n)) Clean (found UnlistedTable at)
+examineAs g grants tables n at x Shape.Leaf = pick (granted grants (upper x (shift g n)) (2 ^ shift g n)) Clean (found OutsideGrants at)
+
+unfoldable pub examine : Geometry → (grants tables : List (ℕ × ℕ)) → (n at : ℕ) → Fetch → AuditAnswer
+examine g grants tables n at Absent = Clean
+examine g grants tables n at (Word x) = examineAs g grants tables n at x (shape g n x)
+
+-- a table of 2 ^ j entries with n levels below them: 1, then 2, then the entries
+unfoldable pub auditTable : (Request → Fetch) → Geometry → (grants tables : List (ℕ × ℕ)) → (n j table : ℕ) → AuditAnswer
+auditTable m g grants tables n j table =
+    orElse (eachEntry (λ a. missing table (m (stage2Read a))) (2 ^ j) table)
+    (orElse (pick (touches grants table (8 * 2 ^ j)) (found TouchesGrant table) Clean)
+    (eachEntry (λ a. examine g grants tables n a (m (stage2Read a))) (2 ^ j) table))
+
+-- ---- all tables
+
+-- a listed table has all of the granule's entries
+unfoldable pub auditListed : (Request → Fetch) → Geometry → (grants tables : List (ℕ × ℕ)) → List (ℕ × ℕ) → AuditAnswer
+auditListed m g grants tables [] = Clean
+auditListed m g grants tables (t ∷ l) =
+    orElse (auditTable m g grants tables (3 - t .1) (g .stride) (t .0)) (auditListed m g grants tables l)
+
+-- the root, and then each listed table
+unfoldable pub auditFrom : (Request → Fetch) → (grants tables : List (ℕ × ℕ)) → Root → AuditAnswer
+auditFrom m grants tables (Unusable kind level) = Refused NoRoot
+auditFrom m grants tables (Usable t) =
+    orElse (auditTable m (t .geometry) grants tables (t .levels - 1) (t .bits) (t .base))
+    (auditListed m (t .geometry) grants tables tables)
+
+-- ---- the audit
+
+-- 11, 12, 15, 16 in their order; 16 for a root that faults every IPA is `auditFrom`'s
+abbrev pub auditGrounds : (base length : ℕ) → El2 → (grants counts tables levels : List ℕ) → List Ground
+auditGrounds base length r grants counts tables levels =
+    highCapture base length
+    ∷ failing (auditSettings r)
+    ∷ record { holds = not (wellFormed grants counts tables levels); refusal = AuditLists }
+    ∷ record { holds = not (stage2On r); refusal = NoRoot }
+    ∷ []
+
+unfoldable pub auditOver : (Request → Fetch) → (base length : ℕ) → El2 → (grants counts tables levels : List ℕ) → AuditAnswer
+auditOver m base length r grants counts tables levels =
+    refuse Refused (auditGrounds base length r grants counts tables levels)
+    (auditFrom m (zip grants counts) (zip tables levels) (root2 r))
+
+-- the audit over the bytes of a capture
+unfoldable pub audit : (base : ℕ) (bytes : List ℕ) → El2 → (grants counts tables levels : List ℕ) → AuditAnswer
+audit base bytes = auditOver (memory base (length bytes) bytes) base (length bytes)

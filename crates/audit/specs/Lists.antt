@@ -1,0 +1,57 @@
+-- The audit's lists: grants (address, byte count) and tables (address, level), each as two 64-bit lists (01, The audit).
+-- Assumes nothing.
+use mathlib.Core.Bool.{Bool, true, false, not, _&&_, _||_}
+use mathlib.Core.List.{List, [], _∷_}
+use Prim.Native.Nat.{ℕ, _+_, _%_, _^_}
+use lib.Dec.{ltb, leb, eqb}
+use lib.ListN.{length}
+
+-- two lists, pair by pair, as far as both go
+unfoldable pub zip : List ℕ → List ℕ → List (ℕ × ℕ)
+zip [] l = []
+zip (a ∷ k) [] = []
+zip (a ∷ k) (b ∷ l) = (a, b) ∷ zip k l
+
+-- a test of each, and of each with the one before it
+unfoldable pub all : (ℕ × ℕ → Bool) → List (ℕ × ℕ) → Bool
+all f [] = true
+all f (e ∷ l) = f e && all f l
+
+unfoldable pub ascends : (ℕ × ℕ → ℕ × ℕ → Bool) → List (ℕ × ℕ) → Bool
+ascends f [] = true
+ascends f (e ∷ l) = after e l
+  where
+    after : ℕ × ℕ → List (ℕ × ℕ) → Bool
+    after e [] = true
+    after e (d ∷ l) = f e d && after d l
+
+abbrev pub mostGrants : ℕ
+mostGrants = 256
+
+abbrev pub mostTables : ℕ
+mostTables = 1024
+
+abbrev pub wholeFrames : ℕ → Bool
+wholeFrames n = eqb (n % 4096) 0
+
+-- a grant of one frame or more, ending by 2^48
+unfoldable pub grantFits : ℕ × ℕ → Bool
+grantFits e = wholeFrames (e .0) && wholeFrames (e .1) && leb 4096 (e .1) && leb (e .0 + e .1) (2 ^ 48)
+
+-- a gap lies between a grant and the next
+unfoldable pub grantBefore : ℕ × ℕ → ℕ × ℕ → Bool
+grantBefore e d = ltb (e .0 + e .1) (d .0)
+
+-- a table of one frame, ending by 2^48, at level 1 to 3
+unfoldable pub tableFits : ℕ × ℕ → Bool
+tableFits e = wholeFrames (e .0) && leb (e .0 + 4096) (2 ^ 48) && leb 1 (e .1) && leb (e .1) 3
+
+-- by address, then level
+unfoldable pub tableBefore : ℕ × ℕ → ℕ × ℕ → Bool
+tableBefore e d = ltb (e .0) (d .0) || (eqb (e .0) (d .0) && ltb (e .1) (d .1))
+
+-- the four lists are well formed; otherwise 15
+unfoldable pub wellFormed : (grants counts tables levels : List ℕ) → Bool
+wellFormed grants counts tables levels =
+    eqb (length grants) (length counts) && leb (length grants) mostGrants && all grantFits (zip grants counts) && ascends grantBefore (zip grants counts)
+    && eqb (length tables) (length levels) && leb (length tables) mostTables && all tableFits (zip tables levels) && ascends tableBefore (zip tables levels)

@@ -1,0 +1,28 @@
+-- A capture, its bytes and the physical address of the first, as a memory of descriptors.
+-- Assumes nothing.
+use mathlib.Core.Bool.{Bool, _&&_}
+use mathlib.Core.List.{List, [], _∷_}
+use Prim.Native.Nat.{ℕ, _+_, _-_, _*_}
+use lib.Dec.{leb}
+use lib.ListN.{take, drop}
+use Rattle.descriptor.specs.Bits.{pick}
+use Rattle.descriptor.specs.Program.{Request}
+use Rattle.descriptor.specs.declared.entry.Fetch.{Fetch}
+use Rattle.descriptor.specs.declared.entry.Fetch.the-variants.{Absent, Word}
+
+-- the number that bytes spell, little-endian (01, Walk, descriptors)
+unfoldable pub little : List ℕ → ℕ
+little [] = 0
+little (b ∷ l) = b + 256 * little l
+
+-- the eight bytes of a descriptor lie in the length bytes from base
+unfoldable pub within : (base length address : ℕ) → Bool
+within base length a = leb base a && leb (a + 8) (base + length)
+
+-- a word, or absent unless all eight bytes are there (01, Answer numbers, 6; mission, 2).
+-- The bytes' length is an argument, so that nothing counts them at each read.
+unfoldable pub memory : (base length : ℕ) → List ℕ → Request → Fetch
+memory base length bytes q =
+    pick (within base length (q .address))
+    (Word (little (take 8 (drop (q .address - base) bytes))))
+    Absent

@@ -1,0 +1,33 @@
+-- Tests and choices by them.
+-- Assumes nothing.
+use mathlib.Core.Path.{_≡_, refl}
+use mathlib.Core.Bool.{Bool, true, false, _&&_, true≢false, false≢true}
+use borrow.Author.Tests.{lt-ltb, le-ltb, le-leb, lt-leb, eq-eqb, ne-eqb}
+use Rattle.descriptor.specs.Bits.{pick}
+
+-- a test's value from the fact on its numbers
+pub ruleset tests = (lt-ltb, le-ltb, le-leb, lt-leb, eq-eqb, ne-eqb)
+
+pub and-left : (a b : Bool) → (a && b) ≡ true → a ≡ true
+and-left true b e = refl
+and-left false b e = absurd (false≢true e)
+
+pub and-right : (a b : Bool) → (a && b) ≡ true → b ≡ true
+and-right true b e = e
+and-right false b e = absurd (false≢true e)
+
+-- what holds of both choices, each under its test, holds of the choice
+pub by-pick : {A : Type 0} (P : A → Type 0) (b : Bool) (p q : A) → (b ≡ true → P p) → (b ≡ false → P q) → P (pick b p q)
+unfolding pick
+by-pick P true p q f g = f refl
+by-pick P false p q f g = g refl
+
+pub pick-true : {A : Type 0} (b : Bool) (p q : A) → b ≡ true → pick b p q ≡ p
+unfolding pick
+pick-true true p q e = refl
+pick-true false p q e = absurd (false≢true e)
+
+pub pick-false : {A : Type 0} (b : Bool) (p q : A) → b ≡ false → pick b p q ≡ q
+unfolding pick
+pick-false true p q e = absurd (true≢false e)
+pick-false false p q e = refl

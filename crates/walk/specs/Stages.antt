@@ -1,0 +1,137 @@
+-- Both stages of an access, from what registers say of them (01, Walk, Attributes, Checks; the order is that of 000).
+-- Assumes nothing.
+use mathlib.Core.Bool.{Bool, true, false, not, _&&_, _||_}
+use Prim.Native.Nat.{ℕ, suc, _+_, _-_, _/_, _%_, _^_}
+use lib.Dec.{ltb, eqb}
+use Rattle.descriptor.specs.Bits.{pick, bit, beyond}
+use Rattle.descriptor.specs.Program.{done, stop, bind}
+use Rattle.descriptor.specs.Entry.{outputAddress}
+use Rattle.descriptor.specs.Access.{isFetch, unaligned}
+use Rattle.descriptor.specs.Memory.{isDevice, stage1Attributes, stage2Attributes, flatAttributes, combine}
+use Rattle.descriptor.specs.Permission.{stage1Permits, stage2Permits}
+use Rattle.descriptor.specs.declared.access.Access.{Access}
+use Rattle.descriptor.specs.declared.entry.FaultKind.the-variants as F
+use Rattle.descriptor.specs.declared.memory.Attributes.{Attributes}
+use Rattle.descriptor.specs.declared.memory.Decoded.{Decoded}
+use Rattle.descriptor.specs.declared.memory.Decoded.the-variants.{Settled, Unsettled}
+use Rattle.walk.specs.declared.answer.Stage.{Stage}
+use Rattle.walk.specs.declared.answer.Stage.the-variants.{One, Two}
+use Rattle.walk.specs.declared.answer.Stop.{Stop}
+use Rattle.walk.specs.declared.answer.Stop.the-variants.{Misaligned}
+use Rattle.walk.specs.declared.answer.Translation.{Translation}
+use Rattle.walk.specs.declared.stage.Leaf.{Leaf}
+use Rattle.walk.specs.declared.stage.Output.{Output}
+use Rattle.walk.specs.declared.stage.Root.{Root}
+use Rattle.walk.specs.declared.stage.Root.the-variants.{Unusable}
+use Rattle.walk.specs.declared.stage.Half.{Half}
+use Rattle.walk.specs.declared.stage.Stage1.{Stage1}
+use Rattle.walk.specs.declared.stage.Stage2.{Stage2}
+use Rattle.walk.specs.Walk.{Reading, fault, unsettled, walkFrom}
+
+-- stop where the test holds, else go on
+unfoldable pub unless : {A : Type 0} → Bool → Stop → Reading A → Reading A
+unless b e p = pick b (stop e) p
+
+-- go on with settled attributes
+unfoldable pub settled : {A : Type 0} → Stop → (Attributes → Reading A) → Decoded → Reading A
+settled e k (Settled a) = k a
+settled e k Unsettled = stop e
+
+-- ---- stage 2
+
+-- the root for an IPA, whose bits 47 down to the input size must be 0
+abbrev pub root2At : Stage2 → ℕ → Root
+root2At s ipa = pick (beyond ipa (s .size)) (Unusable F.Translation 0) (s .root)
+
+-- CD counts for data and on-walk, ID for a fetch's own walk
+abbrev pub uncached2 : Stage2 → Access → (onWalk : Bool) → Bool
+uncached2 s a onWalk = pick (isFetch a && not onWalk) (s .id) (s .cd)
+
+-- permission, then a fetch from Device memory, then PTW: all permission faults
+abbrev pub denied2 : Stage2 → Access → (onWalk device : Bool) → (x : ℕ) → Bool
+denied2 s a onWalk device x = not (stage2Permits onWalk a x) || (device && isFetch a) || (onWalk && s .ptw && device)
+
+-- the checks after stage 2's walk; alignment is never tested on-walk
+unfoldable pub check2 : Stage2 → Access → (onWalk : Bool) (ipa : ℕ) → Leaf → Reading Output
+check2 s a onWalk ipa l =
+    settled (unsettled (Two ipa onWalk) (l .level))
+    (λ attrs.
+    unless (not onWalk && isDevice (attrs .memory) && unaligned a) (Misaligned (Two ipa onWalk))
+    (unless (denied2 s a onWalk (isDevice (attrs .memory)) (l .word)) (fault F.Permission (Two ipa onWalk) (l .level))
+    (done (record { address = outputAddress (l .word) (l .shift) ipa; attributes = attrs; level = l .level }))))
+    (stage2Attributes (uncached2 s a onWalk) (l .word))
+
+unfoldable pub translate2 : Stage2 → Access → (onWalk : Bool) (ipa : ℕ) → Reading Output
+translate2 s a onWalk ipa = bind (walkFrom done (Two ipa onWalk) ipa (root2At s ipa)) (check2 s a onWalk ipa)
+
+-- ---- stage 1
+
+-- where a stage 1 descriptor lies: with stage 2 on, its address is translated first
+unfoldable pub place1 : Stage2 → Access → ℕ → Reading ℕ
+place1 s a at = pick (s .on) (bind (translate2 s a true at) (λ o. done (o .address))) (done at)
+
+-- the highest address bit that counts, by TBI and address bit 55
+abbrev pub top : Stage1 → ℕ → ℕ
+top s a = pick (pick (bit a 55) (s .tbi1) (s .tbi0)) 55 63
+
+-- bit Top picks the half
+abbrev pub isHigh : Stage1 → ℕ → Bool
+isHigh s a = bit a (top s a)
+
+abbrev pub half : Stage1 → ℕ → Half
+half s a = pick (isHigh s a) (s .high) (s .low)
+
+-- bits Top down to the half's size are all 0 in the low half, all 1 in the high one
+abbrev pub inHalf : Stage1 → ℕ → Bool
+inHalf s a =
+    let t = suc (top s a) in
+    let n = half s a .size in
+    eqb (a % 2 ^ t / 2 ^ n) (pick (isHigh s a) (2 ^ (t - n) - 1) 0)
+
+-- the root for an address
+abbrev pub root1At : Stage1 → ℕ → Root
+root1At s a = pick (inHalf s a) (half s a .root) (Unusable F.Translation 0)
+
+-- C counts for data, I for a fetch
+abbrev pub uncached1 : Stage1 → Access → Bool
+uncached1 s a = not (pick (isFetch a) (s .i) (s .c))
+
+-- permission, then a fetch from Device memory
+abbrev pub denied1 : Stage1 → Access → (device : Bool) → Leaf → Bool
+denied1 s a device l = not (stage1Permits (s .wxn) a (l .inherited) (l .word)) || (device && isFetch a)
+
+-- the checks after stage 1's walk
+unfoldable pub check1 : Stage1 → Access → Leaf → Reading Output
+check1 s a l =
+    settled (unsettled One (l .level))
+    (λ attrs.
+    unless (isDevice (attrs .memory) && unaligned a) (Misaligned One)
+    (unless (denied1 s a (isDevice (attrs .memory)) l) (fault F.Permission One (l .level))
+    (done (record { address = outputAddress (l .word) (l .shift) (a .address); attributes = attrs; level = l .level }))))
+    (stage1Attributes (s .mair) (uncached1 s a) (l .word))
+
+-- stage 1 off: the address as it is, if its bits Top down to PAMax are 0; no permission is tested
+unfoldable pub flat : Stage1 → Access → Reading Output
+flat s a =
+    let attrs = flatAttributes (s .dc) (isFetch a) (s .i) in
+    unless (ltb 0 (a .address % 2 ^ suc (top s (a .address)) / 2 ^ (s .pamax))) (fault F.AddressSize One 0)
+    (unless (isDevice (attrs .memory) && unaligned a) (Misaligned One)
+    (done (record { address = a .address % 2 ^ 48; attributes = attrs; level = 0 })))
+
+-- from the root for this address
+unfoldable pub translate1 : Stage1 → Root → Stage2 → Access → Reading Output
+translate1 s root s2 a =
+    pick (s .on) (bind (walkFrom (place1 s2 a) One (a .address) root) (check1 s a)) (flat s a)
+
+-- ---- the access
+
+-- stage 2 of an access, after stage 1's output
+unfoldable pub finish : Stage2 → Access → Output → Reading Translation
+finish s a o =
+    pick (s .on)
+    (bind (translate2 s a false (o .address))
+    (λ p. done (record { address = p .address; attributes = combine (o .attributes) (p .attributes); level1 = o .level; level2 = p .level })))
+    (done (record { address = o .address; attributes = o .attributes; level1 = o .level; level2 = 0 }))
+
+unfoldable pub access : Stage1 → Stage2 → Access → Reading Translation
+access s1 s2 a = bind (translate1 s1 (root1At s1 (a .address)) s2 a) (finish s2 a)
