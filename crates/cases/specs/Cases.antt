@@ -4,19 +4,20 @@ use mathlib.Core.Path.{_≡_, refl}
 use mathlib.Core.Bool.{true, false}
 use mathlib.Core.List.{List, [], _∷_, _++_}
 use Prim.Native.Nat.{ℕ, _-_}
+use lib.IntN.{pos, negsuc}
 use lib.ListN.{length, replicate}
 use Rattle.descriptor.specs.declared.access.Access.{Access}
 use Rattle.descriptor.specs.declared.memory.DeviceType.the-variants.{NGnRnE}
 use Rattle.descriptor.specs.declared.memory.Cacheability.the-variants.{WriteBack}
 use Rattle.descriptor.specs.declared.memory.MemoryType.the-variants.{Device, Normal}
-use Rattle.descriptor.specs.declared.memory.Shareability.the-variants.{Outer, Inner}
+use Rattle.descriptor.specs.declared.memory.Shareability.the-variants.{OuterShareable, InnerShareable}
 use Rattle.descriptor.specs.declared.memory.Attributes.{Attributes}
 use Rattle.capture.specs.Sparse.{sparse}
 use Rattle.walk.specs.Answers.{Value, address, attributes, stage, level, level1, level2, on-walk, ipa, reads, item}
 use Rattle.registers.specs.declared.El1.{El1}
 use Rattle.registers.specs.declared.El2.{El2}
 use Rattle.registers.specs.Settings.{settings}
-use Rattle.registers.specs.Roots.{start2}
+use Rattle.registers.specs.Roots.{fourK, start2, sizeCheck}
 use Rattle.question.specs.Question.{question, told}
 use Rattle.batch.specs.Batch.{Shared, toldBatch}
 use Rattle.batch.specs.Ledger.{ascii, line}
@@ -81,10 +82,10 @@ abbrev pub allReads : List ℕ
 allReads = stage1Reads ++ down 0x40002280
 
 abbrev pub writeBack : Value
-writeBack = attributes (record { memory = Normal WriteBack WriteBack; shareability = Inner })
+writeBack = attributes (record { memory = Normal WriteBack WriteBack; shareability = InnerShareable })
 
 abbrev pub strictDevice : Value
-strictDevice = attributes (record { memory = Device NGnRnE; shareability = Outer })
+strictDevice = attributes (record { memory = Device NGnRnE; shareability = OuterShareable })
 
 -- ---- A to K
 
@@ -202,6 +203,25 @@ case-root : asked (record { base = 0x40000000; length = 0x8000; words = (0x40001
     ≡ record { number = 0; values = address 0x80000008 ∷ strictDevice ∷ level1 0 ∷ level2 1 ∷ reads 1 ∷ []; log = logged (0x40001008 ∷ []) }
 unfolding opened asked
 case-root = refl
+
+-- ---- signed corners: start levels and size checks below 0
+
+corner-start : start2 3 ≡ negsuc 0
+unfolding opened
+corner-start = refl
+
+-- 25 bits from level 0 would leave 25 - 39 index bits, from level -1 25 - 48; 48 bits from level -1 leave none
+corner-level-0 : sizeCheck (fourK 25 48) (pos 0) ≡ negsuc 13
+unfolding opened
+corner-level-0 = refl
+
+corner-level-minus-1 : sizeCheck (fourK 25 48) (start2 3) ≡ negsuc 22
+unfolding opened
+corner-level-minus-1 = refl
+
+corner-none : sizeCheck (fourK 48 48) (start2 3) ≡ pos 0
+unfolding opened
+corner-none = refl
 
 -- ---- the batch and its ledger
 

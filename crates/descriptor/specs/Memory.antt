@@ -11,7 +11,7 @@ use Rattle.descriptor.specs.declared.memory.Cacheability.the-variants.{N
 use Rattle.descriptor.specs.declared.memory.MemoryType.{MemoryType}
 use Rattle.descriptor.specs.declared.memory.MemoryType.the-variants.{Device, Normal}
 use Rattle.descriptor.specs.declared.memory.Shareability.{Shareability}
-use Rattle.descriptor.specs.declared.memory.Shareability.the-variants.{Not, Outer, Inner}
+use Rattle.descriptor.specs.declared.memory.Shareability.the-variants.{NonShareable, OuterShareable, InnerShareable}
 use Rattle.descriptor.specs.declared.memory.Attributes.{Attributes}
 use Rattle.descriptor.specs.declared.memory.Decoded.{Decoded}
 use Rattle.descriptor.specs.declared.memory.Decoded.the-variants.{Settled, Unsettled}
@@ -32,7 +32,7 @@ stage2Bits v = pick (eqb v 1) NonCacheable (pick (eqb v 2) WriteThrough WriteBac
 
 -- SH; 1 is no code
 unfoldable pub shareabilityOf : ℕ → Shareability
-shareabilityOf v = pick (eqb v 2) Outer (pick (eqb v 3) Inner Not)
+shareabilityOf v = pick (eqb v 2) OuterShareable (pick (eqb v 3) InnerShareable NonShareable)
 
 -- ---- reporting
 
@@ -47,9 +47,9 @@ isNonCacheable WriteBack = false
 
 -- Device, and Normal Non-cacheable both ways, are outer shareable
 unfoldable pub reported : MemoryType → Shareability → Attributes
-reported (Device d) s = record { memory = Device d; shareability = Outer }
+reported (Device d) s = record { memory = Device d; shareability = OuterShareable }
 reported (Normal o i) s =
-    record { memory = Normal o i; shareability = pick (isNonCacheable o && isNonCacheable i) Outer s }
+    record { memory = Normal o i; shareability = pick (isNonCacheable o && isNonCacheable i) OuterShareable s }
 
 -- Normal memory with caching off is Non-cacheable; SH 1 is unsettled on Normal memory
 unfoldable pub normal : (uncached : Bool) (sh : ℕ) → Cacheability → Cacheability → Decoded
@@ -58,7 +58,7 @@ normal uncached sh o i =
     (Settled (reported (pick uncached (Normal NonCacheable NonCacheable) (Normal o i)) (shareabilityOf sh)))
 
 abbrev pub device : DeviceType → Decoded
-device d = Settled (reported (Device d) Outer)
+device d = Settled (reported (Device d) OuterShareable)
 
 -- ---- decoding
 
@@ -89,10 +89,10 @@ stage2Attributes uncached x = stage2Codes uncached (field x 8 2) (field x 4 2) (
 -- by HCR_EL2.DC, by whether the access is a fetch, and by SCTLR_EL1.I
 unfoldable pub flatAttributes : (dc fetch i : Bool) → Attributes
 flatAttributes dc fetch i =
-    pick dc (reported (Normal WriteBack WriteBack) Not)
+    pick dc (reported (Normal WriteBack WriteBack) NonShareable)
     (pick fetch
-    (pick i (reported (Normal WriteThrough WriteThrough) Outer) (reported (Normal NonCacheable NonCacheable) Outer))
-    (reported (Device NGnRnE) Outer))
+    (pick i (reported (Normal WriteThrough WriteThrough) OuterShareable) (reported (Normal NonCacheable NonCacheable) OuterShareable))
+    (reported (Device NGnRnE) OuterShareable))
 
 -- ---- combining
 
@@ -108,9 +108,9 @@ cacheRank WriteThrough = 1
 cacheRank WriteBack = 2
 
 unfoldable pub shareRank : Shareability → ℕ
-shareRank Outer = 0
-shareRank Inner = 1
-shareRank Not = 2
+shareRank OuterShareable = 0
+shareRank InnerShareable = 1
+shareRank NonShareable = 2
 
 abbrev pub combineDevice : DeviceType → DeviceType → DeviceType
 combineDevice a b = pick (leb (deviceRank a) (deviceRank b)) a b

@@ -21,9 +21,9 @@ pub enum MemoryType {
 }
 
 pub enum Shareability {
-    Not,
-    Outer,
-    Inner,
+    NonShareable,
+    OuterShareable,
+    InnerShareable,
 }
 
 pub struct Attributes {

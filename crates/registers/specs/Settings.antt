@@ -25,34 +25,34 @@ abbrev pub listedSizeField : ℕ → Bool
 listedSizeField n = leb 16 n && leb n 39
 
 -- what is asked only where a test holds
-abbrev pub where-so : Bool → Bool → Bool
-where-so test asked = not test || asked
+abbrev pub implies : Bool → Bool → Bool
+implies test asked = not test || asked
 
 abbrev pub item4El1 : El2 → El1 → Bool
-item4El1 r g = where-so (stage1On r g) (not (Sctlr.ee (g .sctlr)))
+item4El1 r g = implies (stage1On r g) (not (Sctlr.ee (g .sctlr)))
 
 abbrev pub item4El2 : El2 → Bool
-item4El2 r = where-so (stage2On r) (not (Sctlr.ee (r .sctlr)))
+item4El2 r = implies (stage2On r) (not (Sctlr.ee (r .sctlr)))
 
 abbrev pub item5 : El2 → El1 → Bool
-item5 r g = where-so (stage1On r g) (leb (Tcr.ips (g .tcr)) 5)
+item5 r g = implies (stage1On r g) (leb (Tcr.ips (g .tcr)) 5)
 
 abbrev pub item6 : El2 → El1 → Bool
 item6 r g =
-    where-so (stage1On r g && not (Tcr.epd0 (g .tcr)))
+    implies (stage1On r g && not (Tcr.epd0 (g .tcr)))
     (listedSizeField (Tcr.t0sz (g .tcr)) && eqb (Tcr.tg0 (g .tcr)) 0)
 
 abbrev pub item7 : El2 → El1 → Bool
 item7 r g =
-    where-so (stage1On r g && not (Tcr.epd1 (g .tcr)))
+    implies (stage1On r g && not (Tcr.epd1 (g .tcr)))
     (listedSizeField (Tcr.t1sz (g .tcr)) && eqb (Tcr.tg1 (g .tcr)) 2)
 
 abbrev pub item8 : El2 → Bool
-item8 r = where-so (stage2On r) (leb (Vtcr.ps (r .vtcr)) 5)
+item8 r = implies (stage2On r) (leb (Vtcr.ps (r .vtcr)) 5)
 
 abbrev pub item9 : El2 → Bool
 item9 r =
-    where-so (stage2On r)
+    implies (stage2On r)
     (listedSizeField (Vtcr.t0sz (r .vtcr)) && eqb (Vtcr.tg0 (r .vtcr)) 0 && leb (64 - Vtcr.t0sz (r .vtcr)) (r .pamax))
 
 -- the number of the first item that does not hold, or 0

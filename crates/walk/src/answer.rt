@@ -4,7 +4,7 @@ use descriptor::memory::Attributes;
 // The stage of an answer. Stage 2 translates an IPA; on a walk, that of a stage 1 descriptor.
 pub enum Stage {
     One,
-    Two { ipa: u64, walk: bool },
+    Two { ipa: u64, onwalk: bool },
 }
 
 pub struct Fault {
