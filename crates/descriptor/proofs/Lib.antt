@@ -1,1 +1,4 @@
 pub mod Tests
+pub mod Laws
+pub mod Holds
+pub mod Tally

@@ -27,6 +27,11 @@ pub data Program (Q E A : Type 0) : Type 0 where
   note : ℕ → Program Q E A → Program Q E A
   ask : Q → (Fetch → Program Q E A) → Program Q E A
 
+-- each of a list
+pub data All {Q : Type 0} (P : Q → Type 0) : List Q → Type 0 where
+  nil : All P []
+  cons : {q : Q} {l : List Q} → P q → All P l → All P (q ∷ l)
+
 -- a read that found nothing is neither counted nor logged (01, Answer numbers)
 abbrev pub counted : {Q : Type 0} → Fetch → Q → List Q → List Q
 counted Absent q l = l
