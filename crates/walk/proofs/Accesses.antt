@@ -1,0 +1,184 @@
+-- What holds of a whole access with stage 2 on, from what holds of stage 2's tables.
+-- Assumes nothing.
+use mathlib.Core.Path.{_≡_, refl, ap, sym, _∙_, subst}
+use mathlib.Core.Bool.{Bool, true, false, not, _&&_, _||_, false≢true}
+use Prim.Native.Nat.{ℕ, suc, _+_, _-_, _*_, _/_, _%_, _^_, _<_}
+use native.Mathlib.Omega.{arith}
+use lib.Dec.{ltb, eqb}
+use lib.Pow.{pow-add}
+use Rattle.descriptor.specs.Bits.{pick, bit, upper, beyond}
+use Rattle.descriptor.specs.Program.{stage-1, stage-2, Request, done, stop, bind}
+use Rattle.descriptor.specs.Entry.{shift, shape, outputAddress, nothing}
+use Rattle.descriptor.specs.declared.access.Access.{Access}
+use Rattle.descriptor.specs.declared.entry.Fetch.{Fetch}
+use Rattle.descriptor.specs.declared.entry.Fetch.the-variants.{Word}
+use Rattle.descriptor.specs.declared.entry.Geometry.{Geometry}
+use Rattle.descriptor.specs.declared.entry.Shape.{Shape}
+use Rattle.descriptor.specs.declared.entry.Shape.the-variants as Shape
+use Rattle.descriptor.specs.declared.entry.FaultKind.{FaultKind}
+use Rattle.descriptor.specs.declared.memory.Attributes.{Attributes}
+use Rattle.descriptor.specs.declared.memory.Decoded.{Decoded}
+use Rattle.descriptor.specs.declared.memory.Decoded.the-variants.{Settled, Unsettled}
+use Rattle.descriptor.proofs.Tests.{by-pick}
+use Rattle.descriptor.proofs.Holds.{Holds, on-done, on-stop, holds-bind, holds-pick}
+use Rattle.walk.specs.declared.answer.Stage.{Stage}
+use Rattle.walk.specs.declared.answer.Stage.the-variants.{One, Two}
+use Rattle.walk.specs.declared.answer.Stop.{Stop}
+use Rattle.walk.specs.declared.answer.Stop.the-variants.{Misaligned}
+use Rattle.walk.specs.declared.answer.Translation.{Translation}
+use Rattle.walk.specs.declared.stage.Leaf.{Leaf}
+use Rattle.walk.specs.declared.stage.Table.{Table}
+use Rattle.walk.specs.declared.stage.Root.{Root}
+use Rattle.walk.specs.declared.stage.Root.the-variants.{Unusable, Usable}
+use Rattle.walk.specs.declared.stage.Output.{Output}
+use Rattle.walk.specs.declared.stage.Stage1.{Stage1}
+use Rattle.walk.specs.declared.stage.Stage2.{Stage2}
+use Rattle.walk.specs.Walk.{Reading, fault, absent, unsettled, walkFrom}
+use Rattle.walk.specs.Stages.{unless, settled, root2At, check2, translate2, place1, root1At, check1, flat, translate1, finish, access}
+use Rattle.walk.proofs.Walks.{Says, holds-walk}
+
+-- ---- descriptors are eight bytes: tables lie at multiples of eight, and so does each of their entries
+
+-- of a usable root: its base, and each table that an entry leads to
+abbrev pub Aligned : Root → Type 0
+Aligned (Unusable kind level) = Unit {0}
+Aligned (Usable t) = (t .base % 8 ≡ 0) × ((x : ℕ) → upper x (t .geometry .granule) % 8 ≡ 0)
+
+pub upper-aligned : (x low : ℕ) → upper x (3 + low) % 8 ≡ 0
+upper-aligned x low =
+    let e : x % 2 ^ 48 / 2 ^ (3 + low) * 2 ^ (3 + low) ≡ 8 * (x % 2 ^ 48 / 2 ^ (3 + low) * 2 ^ low) =
+    ap (x % 2 ^ 48 / 2 ^ (3 + low) *_) (pow-add 2 3 low) ∙ omega arith in
+    omega arith
+
+-- ---- stage 2's tables
+
+-- an entry with n levels below it lies at an address, in a table of T
+pub record Spot (T : ℕ → ℕ → ℕ → Type 0) (n at : ℕ) : Type 0 where
+  pub bits : ℕ
+  pub table : ℕ
+  pub index : ℕ
+  pub of : T (suc n) bits table
+  pub less : index < 2 ^ bits
+  pub is : at ≡ table + 8 * index
+
+-- stage 2 puts the input ipa at o by a leaf of L
+pub record Hit (L : ℕ → ℕ → Type 0) (ipa o : ℕ) : Type 0 where
+  pub word : ℕ
+  pub shift : ℕ
+  pub leaf : L word shift
+  pub is : o ≡ outputAddress word shift ipa
+
+-- P of each read and S of each stop over the memory m. F: where stage 1's descriptors may lie.
+-- T and L: stage 2's tables and leaves, from its root down, as `says` has it of each entry.
+pub record Around (m : Request → Fetch) (P : Request → Type 0) (S : Stop → Type 0)
+    (F : ℕ → Type 0) (T : ℕ → ℕ → ℕ → Type 0) (L : ℕ → ℕ → Type 0) (root : Table) : Type 0 where
+  pub faults : (s : Stage) (kind : FaultKind) (level : ℕ) → S (fault kind s level)
+  pub opens : (s : Stage) (level : ℕ) → S (unsettled s level)
+  pub misaligned : (s : Stage) → S (Misaligned s)
+  pub gap1 : (at level : ℕ) → F at → S (absent at One level)
+  pub gap2 : (at ipa : ℕ) (w : Bool) (level : ℕ) → S (absent at (Two ipa w) level)
+  pub read1 : (at : ℕ) → F at → P (record { reader = stage-1; address = at })
+  pub read2 : (n at : ℕ) → Spot T n at → P (record { reader = stage-2; address = at })
+  pub top : T (root .levels) (root .bits) (root .base)
+  pub says : (n bits table index x : ℕ) → T (suc n) bits table → index < 2 ^ bits →
+      m (record { reader = stage-2; address = table + 8 * index }) ≡ Word x → Says T L (root .geometry) n x (shape (root .geometry) n x)
+  pub lies : (ipa o : ℕ) → ipa % 8 ≡ 0 → Hit L ipa o → F o
+
+module _ (m : Request → Fetch) (P : Request → Type 0) (S : Stop → Type 0)
+    (F : ℕ → Type 0) (T : ℕ → ℕ → ℕ → Type 0) (L : ℕ → ℕ → Type 0) (root : Table) (w : Around m P S F T L root) where
+  abbrev H : {A : Type 0} → (A → Type 0) → Reading A → Type 0
+  H = Holds m P S
+
+  -- no more is known
+  abbrev Any : {A : Type 0} → A → Type 0
+  Any a = Unit {0}
+
+  -- ---- steps that read nothing
+
+  holds-unless : {A : Type 0} {R : A → Type 0} {p : Reading A} (b : Bool) (e : Stop) → S e → H R p → H R (unless b e p)
+  unfolding unless
+  holds-unless b e s h = holds-pick m _ _ b (λ _. on-stop s) (λ _. h)
+
+  holds-settled : {A : Type 0} {R : A → Type 0} (e : Stop) (k : Attributes → Reading A) → S e → ((a : Attributes) → H R (k a)) → (d : Decoded) → H R (settled e k d)
+  unfolding settled
+  holds-settled e k s h (Settled a) = h a
+  holds-settled e k s h Unsettled = on-stop s
+
+  -- ---- stage 2
+
+  spot-says : (n at x : ℕ) → Spot T n at → m (record { reader = stage-2; address = at }) ≡ Word x → Says T L (root .geometry) n x (shape (root .geometry) n x)
+  spot-says n at x p e =
+      w .says n (p .bits) (p .table) (p .index) x (p .of) (p .less) (subst (λ z. m (record { reader = stage-2; address = z }) ≡ Word x) (p .is) e)
+
+  holds-walk2 : (ipa : ℕ) (onWalk : Bool) (r : Root) → r ≡ Usable root → H (λ l. L (l .word) (l .shift)) (walkFrom done (Two ipa onWalk) ipa r)
+  unfolding walkFrom
+  holds-walk2 ipa onWalk r e =
+      subst (λ z. H (λ (l : Leaf). L (l .word) (l .shift)) (walkFrom done (Two ipa onWalk) ipa z)) (sym e)
+      (holds-walk m P S T (Spot T) L (Two ipa onWalk) (w .faults _) (w .opens _) (root .geometry) done
+      (λ n j table i t less. on-done (record { bits = j; table = table; index = i; of = t; less = less; is = refl }))
+      (λ n at p. w .read2 n at p) (λ n at level p. w .gap2 at ipa onWalk level) spot-says
+      ipa (root .levels) (root .bits) (root .base) nothing (w .top))
+
+  module _ (s2 : Stage2) (rooted : s2 .root ≡ Usable root) (a : Access) where
+    holds-check2 : (onWalk : Bool) (ipa : ℕ) (l : Leaf) → L (l .word) (l .shift) → H (λ o. Hit L ipa (o .address)) (check2 s2 a onWalk ipa l)
+    unfolding check2
+    holds-check2 onWalk ipa l h =
+        holds-settled _ _ (w .opens _ _)
+        (λ t. holds-unless _ _ (w .misaligned _) (holds-unless _ _ (w .faults _ _ _)
+        (on-done (record { word = l .word; shift = l .shift; leaf = h; is = refl })))) _
+
+    pub holds-translate2 : (onWalk : Bool) (ipa : ℕ) → H (λ o. Hit L ipa (o .address)) (translate2 s2 a onWalk ipa)
+    unfolding translate2 walkFrom
+    holds-translate2 onWalk ipa =
+        holds-bind m _ _ _
+        (by-pick (λ r. H (λ (l : Leaf). L (l .word) (l .shift)) (walkFrom done (Two ipa onWalk) ipa r)) (beyond ipa (s2 .size)) (Unusable _ _) (s2 .root)
+        (λ _. on-stop (w .faults _ _ _)) (λ _. holds-walk2 ipa onWalk (s2 .root) rooted))
+        (holds-check2 onWalk ipa)
+
+    -- ---- stage 1, over stage 2
+
+    module _ (on : s2 .on ≡ true) where
+      holds-place : (at : ℕ) → at % 8 ≡ 0 → H F (place1 s2 a at)
+      unfolding place1
+      holds-place at e =
+          holds-pick m _ _ (s2 .on)
+          (λ _. holds-bind m _ _ _ (holds-translate2 true at) (λ o h. on-done (w .lies at (o .address) e h)))
+          (λ off. absurd (false≢true (sym off ∙ on)))
+
+      one-says : (g : Geometry) → ((x : ℕ) → upper x (g .granule) % 8 ≡ 0) → (n x : ℕ) (shape : Shape) → Says (λ k j table. table % 8 ≡ 0) (λ x t. Unit {0}) g n x shape
+      one-says g even n x Shape.Void = tt
+      one-says g even n x Shape.Table = even x
+      one-says g even n x Shape.Leaf = tt
+
+      holds-walk1 : (r : Root) → Aligned r → H Any (walkFrom (place1 s2 a) One (a .address) r)
+      unfolding walkFrom
+      holds-walk1 (Unusable kind level) h = on-stop (w .faults _ _ _)
+      holds-walk1 (Usable t) h =
+          holds-walk m P S (λ k j table. table % 8 ≡ 0) (λ n at. F at) (λ x k. Unit {0}) One (w .faults _) (w .opens _) (t .geometry) (place1 s2 a)
+          (λ n j table i e less. holds-place (table + 8 * i) (omega arith))
+          (λ n at f. w .read1 at f) (λ n at level f. w .gap1 at level f) (λ n at x f e. one-says (t .geometry) (h .1) n x (shape (t .geometry) n x))
+          (a .address) (t .levels) (t .bits) (t .base) nothing (h .0)
+
+      holds-check1 : (s1 : Stage1) (l : Leaf) → H Any (check1 s1 a l)
+      unfolding check1
+      holds-check1 s1 l = holds-settled _ _ (w .opens _ _) (λ t. holds-unless _ _ (w .misaligned _) (holds-unless _ _ (w .faults _ _ _) (on-done tt))) _
+
+      holds-flat : (s1 : Stage1) → H Any (flat s1 a)
+      unfolding flat
+      holds-flat s1 = holds-unless _ _ (w .faults _ _ _) (holds-unless _ _ (w .misaligned _) (on-done tt))
+
+      holds-translate1 : (s1 : Stage1) (r : Root) → Aligned r → H Any (translate1 s1 r s2 a)
+      unfolding translate1
+      holds-translate1 s1 r h = holds-pick m _ _ (s1 .on) (λ _. holds-bind m _ _ _ (holds-walk1 r h) (λ l _. holds-check1 s1 l)) (λ _. holds-flat s1)
+
+      holds-finish : (o : Output) → H (λ t. (ipa : ℕ) × Hit L ipa (t .address)) (finish s2 a o)
+      unfolding finish
+      holds-finish o =
+          holds-pick m _ _ (s2 .on)
+          (λ _. holds-bind m _ _ _ (holds-translate2 false (o .address)) (λ p h. on-done (o .address, h)))
+          (λ off. absurd (false≢true (sym off ∙ on)))
+
+      -- every translated address is one where stage 2 puts some input
+      pub holds-access : (s1 : Stage1) → Aligned (root1At s1 (a .address)) → H (λ t. (ipa : ℕ) × Hit L ipa (t .address)) (access s1 s2 a)
+      unfolding access
+      holds-access s1 h = holds-bind m _ _ _ (holds-translate1 s1 (root1At s1 (a .address)) h) (λ o _. holds-finish o)
