@@ -1,1 +1,2 @@
 pub mod Sparse
+pub mod Bytewise

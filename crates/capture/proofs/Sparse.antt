@@ -9,12 +9,12 @@ use native.Mathlib.Omega.{arith}
 use lib.Arith.{mod-mul}
 use lib.Dec.{leb, eqb}
 use lib.ListN.{take, drop}
-use borrow.Author.Tests.{leb-true, eqb-true}
+use borrow.Author.Tests.{eqb-true}
 use Rattle.descriptor.specs.Bits.{pick}
 use Rattle.descriptor.specs.Program.{Request}
-use Rattle.descriptor.proofs.Tests.{and-left, and-right}
 use Rattle.descriptor.specs.declared.entry.Fetch.the-variants.{Absent, Word}
 use Rattle.capture.specs.Capture.{little, within, memory}
+use Rattle.capture.proofs.Bytewise.{in-bounds}
 use Rattle.capture.specs.Sparse.{wordAt, byteAt, image, descriptorAt, sparse}
 
 drop-image : (ws : List (ℕ × ℕ)) (k a n : ℕ) → k ≤ n → drop k (image ws a n) ≡ image ws (a + k) (n - k)
@@ -63,10 +63,6 @@ word-spelled ws a = by-test (eqb (a % 8) 0) refl
     by-test : (b : Bool) → eqb (a % 8) 0 ≡ b → pick b (wordAt ws a % 2 ^ 64) (little (image ws a 8)) ≡ little (image ws a 8)
     by-test true e = sym (ap (λ z. little (image ws z 8)) (sym (add-zero a)) ∙ spelled ws a (eqb-true _ _ e) 8 0 refl ∙ ap (_% 2 ^ 64) (div-one _))
     by-test false e = refl
-
-in-bounds : (base length a : ℕ) → within base length a ≡ true → (base ≤ a) × (a + 8 ≤ base + length)
-unfolding within
-in-bounds base length a h = (leb-true _ _ (and-left _ _ h), leb-true _ _ (and-right (leb base a) _ h))
 
 pub sparse-memory : (base length : ℕ) (ws : List (ℕ × ℕ)) → sparse base length ws ≡ memory base length (image ws base length)
 unfolding sparse memory pick

@@ -1,10 +1,11 @@
 -- A capture, its bytes and the physical address of the first, as a memory of descriptors.
 -- Assumes nothing.
+use mathlib.Core.Path.{_≡_}
 use mathlib.Core.Bool.{Bool, _&&_}
 use mathlib.Core.List.{List, [], _∷_}
-use Prim.Native.Nat.{ℕ, _+_, _-_, _*_}
+use Prim.Native.Nat.{ℕ, _+_, _-_, _*_, _<_}
 use lib.Dec.{leb}
-use lib.ListN.{take, drop}
+use lib.ListN.{take, drop, getD}
 use Rattle.descriptor.specs.Bits.{pick}
 use Rattle.descriptor.specs.Program.{Request}
 use Rattle.descriptor.specs.declared.entry.Fetch.{Fetch}
@@ -26,3 +27,7 @@ memory base length bytes q =
     pick (within base length (q .address))
     (Word (little (take 8 (drop (q .address - base) bytes))))
     Absent
+
+-- two captures at base have the same bytes from an address on, n of them
+abbrev pub SameBytes : (base : ℕ) (bytes bytes′ : List ℕ) (address n : ℕ) → Type 0
+SameBytes base bytes bytes′ a n = (k : ℕ) → k < n → getD bytes′ (a + k - base) 0 ≡ getD bytes (a + k - base) 0

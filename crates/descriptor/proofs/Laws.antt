@@ -21,6 +21,10 @@ pub all-right : {Q : Type 0} {P : Q → Type 0} (a b : List Q) → All P (a ++ b
 all-right [] b h = h
 all-right (q ∷ a) b (cons p h) = all-right a b h
 
+pub all-map : {Q : Type 0} {P R : Q → Type 0} {a : List Q} → ((q : Q) → P q → R q) → All P a → All R a
+all-map f nil = nil
+all-map f (cons p h) = cons (f _ p) (all-map f h)
+
 pub all-counted : {Q : Type 0} {P : Q → Type 0} (f : Fetch) (q : Q) (l : List Q) → P q → All P l → All P (counted f q l)
 all-counted Absent q l p h = h
 all-counted (Word w) q l p h = cons p h

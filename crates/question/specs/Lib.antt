@@ -1,2 +1,4 @@
 pub mod Refusals
 pub mod Question
+pub mod Counts
+pub mod Framing

@@ -2,6 +2,7 @@
 -- Assumes nothing.
 use mathlib.Core.Bool.{Bool, not}
 use mathlib.Core.List.{List, [], _∷_, map}
+use mathlib.Core.Option.{Option, some, none}
 use Prim.Native.Nat.{ℕ}
 use lib.Dec.{ltb}
 use lib.ListN.{length}
@@ -14,6 +15,7 @@ use Rattle.capture.specs.Capture.{memory}
 use Rattle.walk.specs.Walk.{Reading}
 use Rattle.walk.specs.Stages.{access}
 use Rattle.walk.specs.Answers.{answer}
+use Rattle.walk.specs.declared.answer.Refusal.{Refusal}
 use Rattle.walk.specs.declared.answer.Refusal.the-variants.{ShortLog, Unlisted}
 use Rattle.walk.specs.declared.answer.Stop.the-variants.{Refused}
 use Rattle.walk.specs.declared.answer.Translation.{Translation}
@@ -42,9 +44,14 @@ unfoldable pub question : (words base length : ℕ) → El2 → El1 → Access �
 question words base length r g a =
     refuse (λ why. stop (Refused why)) (grounds words base length r g a) (access (stage1 r g) (stage2 r) a)
 
--- what a question gives
+-- the refusal that a question meets, if any
+abbrev pub refusal : (words base length : ℕ) → El2 → El1 → Access → Option Refusal
+refusal words base length r g a = refuse some (grounds words base length r g a) none
+
+-- what a question gives: its answer, the descriptors read in order, the log afterwards, and the level at which each walk ended
 pub record Told : Type 0 where
   pub answer : Answer
+  pub reads : List Request
   pub log : List ℕ
   pub ends : List ℕ
 
@@ -53,6 +60,7 @@ unfoldable pub told : (Request → Fetch) → (log : List ℕ) → Reading Trans
 told m log p =
     record {
       answer = answer (length (reads m p)) (run m p);
+      reads = reads m p;
       log = sets log 0 (map (λ q. q .address) (reads m p));
       ends = ends m p;
     }
