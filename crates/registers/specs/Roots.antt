@@ -9,6 +9,7 @@ use Rattle.descriptor.specs.Bits.{pick, upper, beyond}
 use Rattle.descriptor.specs.Entry.{shift}
 use Rattle.descriptor.specs.declared.entry.Geometry.{Geometry}
 use Rattle.descriptor.specs.declared.entry.FaultKind.the-variants.{Translation, AddressSize}
+use Rattle.walk.specs.declared.stage.Table.{Table}
 use Rattle.walk.specs.declared.stage.Root.{Root}
 use Rattle.walk.specs.declared.stage.Root.the-variants.{Unusable, Usable}
 use Rattle.walk.specs.declared.stage.Half.{Half}
@@ -55,13 +56,15 @@ levelsBelow (negsuc l) = 4 + l
 
 -- ---- roots
 
--- the root that a base register gives, with n levels below it.
+-- the root table at a base register, with n levels below it.
 -- 3 + the index bits is 01's b: a base is aligned to its table's size, however many entries it has.
+abbrev pub tableOf : Geometry → (n register : ℕ) → Table
+tableOf g n register =
+    record { geometry = g; levels = suc n; bits = g .input - shift g n; base = upper register (3 + (g .input - shift g n)) }
+
+-- no bit of a base register may lie beyond the output size
 unfoldable pub rootOf : Geometry → (n register : ℕ) → Root
-rootOf g n register =
-    let bits = g .input - shift g n in
-    pick (beyond register (g .output)) (Unusable AddressSize 0)
-    (Usable (record { geometry = g; levels = suc n; bits = bits; base = upper register (3 + bits) }))
+rootOf g n register = pick (beyond register (g .output)) (Unusable AddressSize 0) (Usable (tableOf g n register))
 
 -- a half of stage 1, by its size field, EPD and TTBR
 abbrev pub half1 : (ips tnsz : ℕ) (epd : Bool) (ttbr : ℕ) → Half

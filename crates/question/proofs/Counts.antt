@@ -1,0 +1,206 @@
+-- The number of reads of a question.
+-- Assumes nothing.
+use mathlib.Core.Path.{_≡_, refl, ap, ap₂, sym, _∙_, subst}
+use mathlib.Core.Bool.{Bool, true, false, not}
+use mathlib.Core.List.{List, [], _∷_, map}
+use mathlib.Core.Option.{Option, some, none}
+use Prim.Native.Nat.{ℕ, zero, suc, _+_, _-_, _*_, _≤_, suc-le-suc}
+use native.Mathlib.Nat.{mul-le-mul, mul-one, add-zero}
+use native.Mathlib.Numerals.{add-one}
+use native.Mathlib.Omega.{arith}
+use lib.Dec.{eqb}
+use lib.IntN.{ℤ, pos, negsuc}
+use lib.ListN.{length}
+use borrow.Author.Tests.{eqb-true, not-false}
+use Rattle.descriptor.specs.Bits.{pick}
+use Rattle.descriptor.specs.Program.{Request, Outcome, reached, stopped, stop, run, reads, ends, All, nil, cons}
+use Rattle.descriptor.specs.declared.access.Access.{Access}
+use Rattle.descriptor.specs.declared.entry.Fetch.{Fetch}
+use Rattle.descriptor.proofs.Tests.{by-pick, pick-true, pick-false}
+use Rattle.descriptor.proofs.Tally.{Tally, Tight, AllThree}
+use Rattle.capture.specs.Capture.{memory}
+use Rattle.walk.specs.Walk.{Reading}
+use Rattle.walk.specs.Stages.{isHigh, root1At, access}
+use Rattle.walk.specs.Answers.{answer}
+use Rattle.walk.specs.declared.answer.Refusal.{Refusal}
+use Rattle.walk.specs.declared.answer.Stop.{Stop}
+use Rattle.walk.specs.declared.answer.Stop.the-variants as S
+use Rattle.walk.specs.declared.answer.Translation.{Translation}
+use Rattle.walk.specs.declared.answer.Answer.the-variants.{Translated, Refused}
+use Rattle.walk.specs.declared.stage.Root.{Root}
+use Rattle.walk.specs.declared.stage.Root.the-variants.{Unusable, Usable}
+use Rattle.walk.proofs.Counts.{HasLevels, tight-access}
+use Rattle.registers.specs.Tcr
+use Rattle.registers.specs.Vtcr
+use Rattle.registers.specs.Settings.{stage1On, stage2On, settings}
+use Rattle.registers.specs.Roots.{fourK, inputSize, outputSize, start1, start2, levelsBelow, half1, root2, stage1, stage2}
+use Rattle.registers.specs.declared.El1.{El1}
+use Rattle.registers.specs.declared.El2.{El2}
+use Rattle.registers.proofs.Settings.{Sized, low-sized, high-sized}
+use Rattle.registers.proofs.Roots.{start1-is, start2-most, by-half1, by-root1At, by-root2}
+use Rattle.question.specs.Question.{Told, grounds, question, refusal, told, ask}
+use Rattle.question.specs.Counts.{levelsFrom, halfLevels, n1, n2, limit, Counted, Counts}
+use Rattle.question.proofs.Refusals.{refuse-some, refuse-none, none-holds}
+
+-- ---- levels
+
+levels-from : (z : ℤ) (l : ℕ) → l ≤ 3 → z ≡ pos l → (suc (levelsBelow z) ≡ levelsFrom z) × (levelsFrom z ≤ 4)
+unfolding levelsBelow levelsFrom
+levels-from z l h e = subst (λ y. (suc (levelsBelow y) ≡ levelsFrom y) × (levelsFrom y ≤ 4)) (sym e) (omega arith, omega arith)
+
+-- a root's levels, none where it is unusable
+levelsOf : Root → ℕ
+levelsOf (Unusable kind level) = 0
+levelsOf (Usable t) = t .levels
+
+has-levels : (root : Root) → HasLevels (levelsOf root) root
+unfolding levelsOf
+has-levels (Unusable kind level) = tt
+has-levels (Usable t) = refl
+
+-- ---- stage 2
+
+root2-levels : (r : El2) (l : ℕ) → start2 (Vtcr.sl0 (r .vtcr)) ≡ pos l → (HasLevels (n2 r) (root2 r)) × (n2 r ≤ 4)
+root2-levels r l e =
+    let below : l ≤ 3 = omega (arith, start2-most r l e) in
+    let h = levels-from (start2 (Vtcr.sl0 (r .vtcr))) l below e in
+    (by-root2 (HasLevels (n2 r)) (λ k l′. tt) r (λ l′ e′. h .0), h .1)
+
+root2-few : (r : El2) → levelsOf (root2 r) ≤ 4
+unfolding levelsOf
+root2-few r =
+    by-root2 (λ root. levelsOf root ≤ 4) (λ k l. omega arith) r
+    (λ l e.
+    let below : l ≤ 3 = omega (arith, start2-most r l e) in
+    let h = levels-from (start2 (Vtcr.sl0 (r .vtcr))) l below e in
+    omega (arith, h .0, h .1))
+
+-- ---- stage 1
+
+start1-levels : (s output : ℕ) → Sized s → (suc (levelsBelow (start1 (fourK s output))) ≡ levelsFrom (start1 (fourK s output))) × (levelsFrom (start1 (fourK s output)) ≤ 4)
+start1-levels s output h =
+    let p = start1-is s output h in
+    let below : p .0 ≤ 3 = omega (arith, p .1) in
+    levels-from (start1 (fourK s output)) (p .0) below (p .2)
+
+half-levels : (ips tnsz : ℕ) (epd : Bool) (ttbr : ℕ) → (epd ≡ false → Sized (inputSize tnsz)) →
+    (HasLevels (halfLevels ips tnsz epd) (half1 ips tnsz epd ttbr .root)) × (halfLevels ips tnsz epd ≤ 4)
+half-levels ips tnsz epd ttbr sized = (
+  by-half1 (HasLevels (halfLevels ips tnsz epd)) (λ k l. tt) ips tnsz epd ttbr (λ e. start1-levels _ _ (sized e) .0 ∙ sym (pick-false epd 0 _ e)),
+  by-pick (λ n. n ≤ 4) epd 0 _ (λ _. omega arith) (λ e. start1-levels _ _ (sized e) .1),
+)
+
+-- accepted settings bound the levels of the half that an address picks
+module _ (r : El2) (g : El1) (a : ℕ) (accepted : settings r g ≡ 0) (on : stage1On r g ≡ true) where
+  abbrev low : ℕ
+  low = halfLevels (Tcr.ips (g .tcr)) (Tcr.t0sz (g .tcr)) (Tcr.epd0 (g .tcr))
+
+  abbrev high : ℕ
+  high = halfLevels (Tcr.ips (g .tcr)) (Tcr.t1sz (g .tcr)) (Tcr.epd1 (g .tcr))
+
+  root1-levels : HasLevels (pick (isHigh (stage1 r g) a) high low) (root1At (stage1 r g) a)
+  unfolding stage1
+  root1-levels =
+      by-root1At (HasLevels (pick (isHigh (stage1 r g) a) high low)) (λ k l. tt) (stage1 r g) a
+      (λ e. rw (pick-true (isHigh (stage1 r g) a) high low e) (half-levels _ _ _ _ (high-sized r g accepted on) .0))
+      (λ e. rw (pick-false (isHigh (stage1 r g) a) high low e) (half-levels _ _ _ _ (low-sized r g accepted on) .0))
+
+  root1-few : pick (isHigh (stage1 r g) a) high low ≤ 4
+  root1-few = by-pick (λ n. n ≤ 4) (isHigh (stage1 r g) a) high low (λ _. half-levels _ _ _ (g .ttbr1) (high-sized r g accepted on) .1) (λ _. half-levels _ _ _ (g .ttbr0) (low-sized r g accepted on) .1)
+
+n1-few : (r : El2) (g : El1) (a : ℕ) → settings r g ≡ 0 → n1 r g a ≤ 4
+n1-few r g a accepted = by-pick (λ n. n ≤ 4) (stage1On r g) _ 0 (λ on. root1-few r g a accepted on) (λ _. omega arith)
+
+-- ---- the access
+
+-- with k levels in stage 2's root
+access-tight : (m : Request → Fetch) (r : El2) (g : El1) (a : Access) (k : ℕ) → settings r g ≡ 0 → HasLevels k (root2 r) →
+    Tight m (n1 r g (a .address) * suc (pick (stage2On r) k 0) + pick (stage2On r) k 0) (access (stage1 r g) (stage2 r) a)
+unfolding stage1 stage2
+access-tight m r g a k accepted levels = by-test (stage1On r g) refl
+  where
+    bound : ℕ → ℕ
+    bound n = n * suc (pick (stage2On r) k 0) + pick (stage2On r) k 0
+
+    by-test : (b : Bool) → stage1On r g ≡ b → Tight m (n1 r g (a .address) * suc (pick (stage2On r) k 0) + pick (stage2On r) k 0) (access (stage1 r g) (stage2 r) a)
+    by-test true on = tight-access m (stage2 r) a k levels (stage1 r g) _ (root1-levels r g (a .address) accepted on)
+    by-test false off =
+        subst (λ z. Tight m (bound z) (access (stage1 r g) (stage2 r) a)) (pick-false (stage1On r g) _ 0 off ∙ sym (pick-false (stage1On r g) _ 0 off))
+        (tight-access m (stage2 r) a k levels (stage1 r g) (levelsOf (root1At (stage1 r g) (a .address))) (has-levels (root1At (stage1 r g) (a .address))))
+
+at-most-24 : (n k : ℕ) → n ≤ 4 → k ≤ 4 → n * (k + 1) + k ≤ 24
+at-most-24 n k h l =
+    let p : k + 1 ≤ 5 = omega arith in
+    omega (arith, mul-le-mul h p)
+
+-- ---- the question
+
+-- a translated access is one whose program reached its end
+exact-of : (c : ℕ) (o : Outcome Stop Translation) (k : ℕ) (l : List ℕ) → Tally c o k l → (to : Translation) (n : ℕ) → answer k o ≡ Translated to n →
+    (k ≡ c → AllThree l) × (AllThree l → k ≡ c)
+unfolding answer
+exact-of c (reached t) k l h to n e = h .exact
+exact-of c (stopped (S.Fault f)) k l h to n e = absurd (let z : _≡_ {A = ℕ} 0 1 = cc in omega arith)
+exact-of c (stopped (S.Misaligned s)) k l h to n e = absurd (let z : _≡_ {A = ℕ} 0 1 = cc in omega arith)
+exact-of c (stopped (S.Absent a)) k l h to n e = absurd (let z : _≡_ {A = ℕ} 0 1 = cc in omega arith)
+exact-of c (stopped (S.Unsettled o)) k l h to n e = absurd (let z : _≡_ {A = ℕ} 0 1 = cc in omega arith)
+exact-of c (stopped (S.Refused r)) k l h to n e = absurd (let z : _≡_ {A = ℕ} 0 1 = cc in omega arith)
+
+counted-of : (m : Request → Fetch) (log : List ℕ) (p : Reading Translation) (c : ℕ) → Tight m c p → Counted c (told m log p)
+unfolding told
+counted-of m log p c h = record { within = h .tally .most; exact = exact-of c (run m p) _ _ (h .tally) }
+
+module _ (base : ℕ) (bytes : List ℕ) (r : El2) (g : El1) (a : Access) (log : List ℕ) where
+  abbrev m : Request → Fetch
+  m = memory base (length bytes) bytes
+
+  abbrev p : Reading Translation
+  p = question (length log) base (length bytes) r g a
+
+  abbrev why : Option Refusal
+  why = refusal (length log) base (length bytes) r g a
+
+  -- without a refusal the settings are accepted, and the question is the access
+  accepted : why ≡ none → settings r g ≡ 0
+  accepted e = third (none-holds _ e)
+    where
+      third : All (λ t. t .holds ≡ false) (grounds (length log) base (length bytes) r g a) → settings r g ≡ 0
+      third (cons h (cons i (cons j l))) = eqb-true _ _ (not-false _ j)
+
+  is-access : why ≡ none → p ≡ access (stage1 r g) (stage2 r) a
+  unfolding question
+  is-access e = refuse-none _ _ _ e
+
+  tight : (k : ℕ) → HasLevels k (root2 r) → why ≡ none → Tight m (n1 r g (a .address) * suc (pick (stage2On r) k 0) + pick (stage2On r) k 0) p
+  tight k levels e = rw is-access (access-tight m r g a k (accepted e) levels)
+
+  refused-tells : (w : Refusal) → why ≡ some w → told m log p ≡ record { answer = Refused w; reads = []; log = log; ends = [] }
+  unfolding question told answer run reads ends
+  refused-tells w e = ap (told m log) (refuse-some _ _ _ w e)
+
+  few : (o : Option Refusal) → why ≡ o → length (told m log p .reads) ≤ 24
+  unfolding told
+  few none e =
+      let h = tight (levelsOf (root2 r)) (has-levels (root2 r)) e in
+      let k = pick (stage2On r) (levelsOf (root2 r)) 0 in
+      let small : k ≤ 4 = by-pick (λ n. n ≤ 4) (stage2On r) _ 0 (λ _. root2-few r) (λ _. omega arith) in
+      let bound : n1 r g (a .address) * (k + 1) + k ≤ 24 = at-most-24 _ k (n1-few r g (a .address) (accepted e)) small in
+      omega (arith, h .tally .most, rw add-one at bound)
+  few (some w) e = rw (ap (λ t. t .reads) (refused-tells w e)) (omega arith)
+
+  pub counts : Counts base bytes r g a log
+  unfolding ask
+  counts =
+      record {
+        counted = λ on l start e.
+            let h = root2-levels r l start in
+            let t : Tight m (limit r g (a .address)) p =
+            subst (λ z. Tight m z p) (rw (pick-true (stage2On r) (n2 r) 0 on, add-one)) (tight (n2 r) (h .0) e) in
+            (counted-of m log p _ t, at-most-24 _ _ (n1-few r g (a .address) (accepted e)) (h .1));
+        alone = λ off e.
+            let t : Tight m (n1 r g (a .address)) p =
+            subst (λ z. Tight m z p) (rw (pick-false (stage2On r) (levelsOf (root2 r)) 0 off) (omega arith)) (tight (levelsOf (root2 r)) (has-levels (root2 r)) e) in
+            (counted-of m log p _ t .within, n1-few r g (a .address) (accepted e));
+        refused = refused-tells;
+        suffices = few why refl;
+      }
