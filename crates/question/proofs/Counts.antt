@@ -37,7 +37,7 @@ use Rattle.registers.specs.Roots.{fourK, inputSize, outputSize, start1, start2,
 use Rattle.registers.specs.declared.El1.{El1}
 use Rattle.registers.specs.declared.El2.{El2}
 use Rattle.registers.proofs.Settings.{Sized, low-sized, high-sized}
-use Rattle.registers.proofs.Roots.{start1-is, start2-most, by-half1, by-root1At, by-root2}
+use Rattle.registers.proofs.Roots.{start1-is, start2-most, by-half1, by-root1At, by-root2, Sane, root2-sane}
 use Rattle.question.specs.Question.{Told, grounds, question, refusal, told, ask}
 use Rattle.question.specs.Counts.{levelsFrom, halfLevels, n1, n2, limit, Counted, Counts}
 use Rattle.question.proofs.Refusals.{refuse-some, refuse-none, none-holds}
@@ -66,14 +66,13 @@ root2-levels r l e =
     let h = levels-from (start2 (Vtcr.sl0 (r .vtcr))) l below e in
     (by-root2 (HasLevels (n2 r)) (λ k l′. tt) r (λ l′ e′. h .0), h .1)
 
-root2-few : (r : El2) → levelsOf (root2 r) ≤ 4
+few-levels : (root : Root) → Sane root → levelsOf root ≤ 4
 unfolding levelsOf
-root2-few r =
-    by-root2 (λ root. levelsOf root ≤ 4) (λ k l. omega arith) r
-    (λ l e.
-    let below : l ≤ 3 = omega (arith, start2-most r l e) in
-    let h = levels-from (start2 (Vtcr.sl0 (r .vtcr))) l below e in
-    omega (arith, h .0, h .1))
+few-levels (Unusable kind level) h = omega arith
+few-levels (Usable t) h = h .1
+
+root2-few : (r : El2) → levelsOf (root2 r) ≤ 4
+root2-few r = few-levels (root2 r) (root2-sane r)
 
 -- ---- stage 1
 

@@ -2,7 +2,7 @@
 -- Assumes nothing.
 use mathlib.Core.Path.{_≡_, refl, ap, sym, subst}
 use mathlib.Core.Bool.{Bool, true, false, _&&_, true≢false}
-use Prim.Native.Nat.{ℕ, zero, suc, _+_, _-_, _*_, _/_, _%_, _^_, _≤_, _<_}
+use Prim.Native.Nat.{ℕ, zero, suc, _+_, _-_, _*_, _/_, _%_, _^_, _≤_, _<_, suc-le-suc}
 use native.Mathlib.Nat.{mod-lt}
 use native.Mathlib.Omega.{arith}
 use lib.Dec.{leb, eqb}
@@ -90,6 +90,20 @@ module _ (Q : Root → Type 0) (unusable : (k : FaultKind) (l : ℕ) → Q (Unus
       (λ _. by-pick Q _ (Unusable _ _) _ (λ _. unusable _ _)
       (λ _. by-pick Q _ (Unusable _ _) _ (λ _. unusable _ _)
       (λ _. by-rootOf _ _ _ (let p = not-negative (start2 (Vtcr.sl0 (r .vtcr))) e in h (p .0) (p .1))))))
+
+-- ---- stage 2's geometry
+
+-- of a usable root: tables of 4,096 bytes or more, and at most four levels
+abbrev pub Sane : Root → Type 0
+Sane (Unusable kind level) = Unit {0}
+Sane (Usable t) = (12 ≤ t .geometry .granule) × (t .levels ≤ 4)
+
+few-below : (z : ℤ) (l : ℕ) → z ≡ pos l → levelsBelow z ≤ 3
+unfolding levelsBelow
+few-below z l e = subst (λ y. levelsBelow y ≤ 3) (sym e) (omega arith)
+
+pub root2-sane : (r : El2) → Sane (root2 r)
+root2-sane r = by-root2 Sane (λ k l. tt) r (λ l e. (omega arith, suc-le-suc (few-below _ l e)))
 
 -- ---- alignment
 
