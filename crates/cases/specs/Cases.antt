@@ -24,7 +24,7 @@ use Rattle.batch.specs.Ledger.{ascii, line}
 use Rattle.batch.specs.declared.Ledger.{Ledger}
 use Rattle.batch.specs.declared.BatchAnswer.the-variants as Batch
 use Rattle.walk.specs.declared.answer.Refusal.the-variants.{BatchLists}
-use Rattle.audit.specs.declared.FindingKind.the-variants.{OutsideGrants}
+use Rattle.audit.specs.declared.FindingKind.the-variants.{NotCaptured, TouchesGrant, UnlistedTable, OutsideGrants}
 use Rattle.audit.specs.declared.AuditAnswer.the-variants.{Clean, Found}
 use Rattle.cases.specs.Open.{opened}
 use Rattle.cases.specs.Asked.{Image, Row, before, asked, audited}
@@ -195,6 +195,24 @@ case-M = refl
 case-M-found : audited (image []) host (0x40003000 ∷ []) (0x3000 ∷ []) tables levels ≡ Found (record { kind = OutsideGrants; address = 0x40002280 })
 unfolding opened audited
 case-M-found = refl
+
+-- finding 1: the last entry of the level 3 table is cut off
+case-M-cut : audited (record { base = 0x40000000; length = 0x2FF8; words = words }) host (0x90000 ∷ 0x40003000 ∷ []) (0x1000 ∷ 0x3000 ∷ []) tables levels
+    ≡ Found (record { kind = NotCaptured; address = 0x40002000 })
+unfolding opened audited
+case-M-cut = refl
+
+-- finding 2: a grant holds that table
+case-M-touched : audited (image []) host (0x90000 ∷ 0x40002000 ∷ []) (0x1000 ∷ 0x4000 ∷ []) tables levels
+    ≡ Found (record { kind = TouchesGrant; address = 0x40002000 })
+unfolding opened audited
+case-M-touched = refl
+
+-- finding 3: that table is not listed
+case-M-unlisted : audited (image []) host (0x90000 ∷ 0x40003000 ∷ []) (0x1000 ∷ 0x3000 ∷ []) (0x40001000 ∷ []) (2 ∷ [])
+    ≡ Found (record { kind = UnlistedTable; address = 0x40001000 })
+unfolding opened audited
+case-M-unlisted = refl
 
 -- ---- a concatenated root
 

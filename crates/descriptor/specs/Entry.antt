@@ -4,7 +4,7 @@
 use mathlib.Core.Bool.{Bool, true, false, _&&_, _||_}
 use Prim.Native.Nat.{ℕ, _+_, _*_, _/_, _%_, _^_}
 use lib.Dec.{ltb, leb, eqb}
-use Rattle.descriptor.specs.Bits.{pick, field, bit, upper, beyond}
+use Rattle.descriptor.specs.Bits.{pick, bit, upper, beyond}
 use Rattle.descriptor.specs.declared.entry.Geometry.{Geometry}
 use Rattle.descriptor.specs.declared.entry.Shape.{Shape}
 use Rattle.descriptor.specs.declared.entry.Shape.the-variants.{Void, Table, Leaf}
@@ -16,10 +16,6 @@ use Rattle.descriptor.specs.declared.entry.Inherited.{Inherited}
 -- t: how many input bits lie below the index of an entry with n levels below it (01, Walk, base)
 abbrev pub shift : Geometry → ℕ → ℕ
 shift g n = g .granule + g .stride * n
-
--- the address of the entry for an input, in a table of 2 ^ j entries with n levels below them; 8 bytes an entry (01, Walk, base)
-abbrev pub entryAddress : Geometry → ℕ → ℕ → ℕ → ℕ → ℕ
-entryAddress g n j table input = table + 8 * field input (shift g n) j
 
 -- what an entry is, by its bits 1:0 and its level. What is void here is what the audit passes over.
 -- (01, Walk, descriptors: bit 0; type 11; type 01 at level 3 and level 0. 01, The audit.)

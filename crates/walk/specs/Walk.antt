@@ -1,8 +1,9 @@
 -- The table walk of one stage, over any geometry (01, Walk).
 -- Assumes nothing.
-use Prim.Native.Nat.{ℕ, zero, suc, _-_}
+use Prim.Native.Nat.{ℕ, zero, suc, _+_, _-_, _*_, _/_, _%_, _^_}
+use Rattle.descriptor.specs.Bits.{field}
 use Rattle.descriptor.specs.Program.{Reader, stage-1, stage-2, Request, Program, done, stop, note, ask, bind}
-use Rattle.descriptor.specs.Entry.{shift, entryAddress, decode, nothing, inherit}
+use Rattle.descriptor.specs.Entry.{shift, decode, nothing, inherit}
 use Rattle.descriptor.specs.declared.entry.Fetch.{Fetch}
 use Rattle.descriptor.specs.declared.entry.Fetch.the-variants.{Absent, Word}
 use Rattle.descriptor.specs.declared.entry.Geometry.{Geometry}
@@ -36,6 +37,10 @@ absent address s level = S.Absent (record { address = address; stage = s; level 
 
 abbrev pub unsettled : Stage → ℕ → Stop
 unsettled s level = S.Unsettled (record { stage = s; level = level })
+
+-- the address of the entry for an input, in a table of 2 ^ j entries with n levels below them; 8 bytes an entry (01, Walk, base)
+abbrev pub entryAddress : Geometry → ℕ → ℕ → ℕ → ℕ → ℕ
+entryAddress g n j table input = table + 8 * field input (shift g n) j
 
 -- a word goes on, an absent descriptor stops
 unfoldable pub fetched : {A : Type 0} → Stop → (ℕ → Reading A) → Fetch → Reading A
