@@ -31,10 +31,12 @@ use Rattle.walk.specs.declared.stage.Table.{Table}
 use Rattle.walk.specs.declared.stage.Root.{Root}
 use Rattle.walk.specs.declared.stage.Root.the-variants.{Unusable, Usable}
 use Rattle.walk.specs.declared.stage.Output.{Output}
+use Rattle.walk.specs.declared.stage.Checked.{Checked}
+use Rattle.walk.specs.declared.stage.Checked.the-variants.{Passed, Stopped}
 use Rattle.walk.specs.declared.stage.Stage1.{Stage1}
 use Rattle.walk.specs.declared.stage.Stage2.{Stage2}
 use Rattle.walk.specs.Walk.{Reading, fault, absent, unsettled, walkFrom}
-use Rattle.walk.specs.Stages.{unless, settled, root2At, check2, translate2, place1, root1At, check1, flat, translate1, finish, access}
+use Rattle.walk.specs.Stages.{unless, settled, give, root2At, check2, translate2, place1, root1At, check1, flat, translate1, finish, access}
 use Rattle.walk.proofs.Walks.{Says, holds-walk}
 
 -- ---- descriptors are eight bytes: tables lie at multiples of eight, and so does each of their entries
@@ -95,14 +97,24 @@ module _ (m : Request → Fetch) (P : Request → Type 0) (S : Stop → Type 0)
 
   -- ---- steps that read nothing
 
-  holds-unless : {A : Type 0} {R : A → Type 0} {p : Reading A} (b : Bool) (e : Stop) → S e → H R p → H R (unless b e p)
-  unfolding unless
-  holds-unless b e s h = holds-pick m _ _ b (λ _. on-stop s) (λ _. h)
+  -- what holds of a check's outcome
+  data Checks (R : Output → Type 0) : Checked → Type 0 where
+    passes : {o : Output} → R o → Checks R (Passed o)
+    stops : {e : Stop} → S e → Checks R (Stopped e)
 
-  holds-settled : {A : Type 0} {R : A → Type 0} (e : Stop) (k : Attributes → Reading A) → S e → ((a : Attributes) → H R (k a)) → (d : Decoded) → H R (settled e k d)
+  holds-give : {R : Output → Type 0} {c : Checked} → Checks R c → H R (give c)
+  unfolding give
+  holds-give (passes h) = on-done h
+  holds-give (stops h) = on-stop h
+
+  checks-unless : {R : Output → Type 0} {c : Checked} (b : Bool) (e : Stop) → S e → Checks R c → Checks R (unless b e c)
+  unfolding unless
+  checks-unless {R} {c} b e s h = by-pick (Checks R) b (Stopped e) c (λ _. stops s) (λ _. h)
+
+  checks-settled : {R : Output → Type 0} (e : Stop) (k : Attributes → Checked) → S e → ((a : Attributes) → Checks R (k a)) → (d : Decoded) → Checks R (settled e k d)
   unfolding settled
-  holds-settled e k s h (Settled a) = h a
-  holds-settled e k s h Unsettled = on-stop s
+  checks-settled e k s h (Settled a) = h a
+  checks-settled e k s h Unsettled = stops s
 
   -- ---- stage 2
 
@@ -120,12 +132,12 @@ module _ (m : Request → Fetch) (P : Request → Type 0) (S : Stop → Type 0)
       ipa (root .levels) (root .bits) (root .base) nothing (w .top))
 
   module _ (s2 : Stage2) (rooted : s2 .root ≡ Usable root) (a : Access) where
-    holds-check2 : (onWalk : Bool) (ipa : ℕ) (l : Leaf) → L (l .word) (l .shift) → H (λ o. Hit L ipa (o .address)) (check2 s2 a onWalk ipa l)
+    checks2 : (onWalk : Bool) (ipa : ℕ) (l : Leaf) → L (l .word) (l .shift) → Checks (λ o. Hit L ipa (o .address)) (check2 s2 a onWalk ipa l)
     unfolding check2
-    holds-check2 onWalk ipa l h =
-        holds-settled _ _ (w .opens _ _)
-        (λ t. holds-unless _ _ (w .misaligned _) (holds-unless _ _ (w .faults _ _ _)
-        (on-done (record { word = l .word; shift = l .shift; leaf = h; is = refl })))) _
+    checks2 onWalk ipa l h =
+        checks-settled _ _ (w .opens _ _)
+        (λ t. checks-unless _ _ (w .misaligned _) (checks-unless _ _ (w .faults _ _ _)
+        (passes (record { word = l .word; shift = l .shift; leaf = h; is = refl })))) _
 
     pub holds-translate2 : (onWalk : Bool) (ipa : ℕ) → H (λ o. Hit L ipa (o .address)) (translate2 s2 a onWalk ipa)
     unfolding translate2 walkFrom
@@ -133,7 +145,7 @@ module _ (m : Request → Fetch) (P : Request → Type 0) (S : Stop → Type 0)
         holds-bind m _ _ _
         (by-pick (λ r. H (λ (l : Leaf). L (l .word) (l .shift)) (walkFrom done (Two ipa onWalk) ipa r)) (beyond ipa (s2 .size)) (Unusable _ _) (s2 .root)
         (λ _. on-stop (w .faults _ _ _)) (λ _. holds-walk2 ipa onWalk (s2 .root) rooted))
-        (holds-check2 onWalk ipa)
+        (λ l h. holds-give (checks2 onWalk ipa l h))
 
     -- ---- stage 1, over stage 2
 
@@ -159,17 +171,17 @@ module _ (m : Request → Fetch) (P : Request → Type 0) (S : Stop → Type 0)
           (λ n at f. w .read1 at f) (λ n at level f. w .gap1 at level f) (λ n at x f e. one-says (t .geometry) (h .1) n x (shape (t .geometry) n x))
           (a .address) (t .levels) (t .bits) (t .base) nothing (h .0)
 
-      holds-check1 : (s1 : Stage1) (l : Leaf) → H Any (check1 s1 a l)
+      checks1 : (s1 : Stage1) (l : Leaf) → Checks Any (check1 s1 a l)
       unfolding check1
-      holds-check1 s1 l = holds-settled _ _ (w .opens _ _) (λ t. holds-unless _ _ (w .misaligned _) (holds-unless _ _ (w .faults _ _ _) (on-done tt))) _
+      checks1 s1 l = checks-settled _ _ (w .opens _ _) (λ t. checks-unless _ _ (w .misaligned _) (checks-unless _ _ (w .faults _ _ _) (passes tt))) _
 
-      holds-flat : (s1 : Stage1) → H Any (flat s1 a)
+      checks-flat : (s1 : Stage1) → Checks Any (flat s1 a)
       unfolding flat
-      holds-flat s1 = holds-unless _ _ (w .faults _ _ _) (holds-unless _ _ (w .misaligned _) (on-done tt))
+      checks-flat s1 = checks-unless _ _ (w .faults _ _ _) (checks-unless _ _ (w .misaligned _) (passes tt))
 
       holds-translate1 : (s1 : Stage1) (r : Root) → Aligned r → H Any (translate1 s1 r s2 a)
       unfolding translate1
-      holds-translate1 s1 r h = holds-pick m _ _ (s1 .on) (λ _. holds-bind m _ _ _ (holds-walk1 r h) (λ l _. holds-check1 s1 l)) (λ _. holds-flat s1)
+      holds-translate1 s1 r h = holds-pick m _ _ (s1 .on) (λ _. holds-bind m _ _ _ (holds-walk1 r h) (λ l _. holds-give (checks1 s1 l))) (λ _. holds-give (checks-flat s1))
 
       holds-finish : (o : Output) → H (λ t. (ipa : ℕ) × Hit L ipa (t .address)) (finish s2 a o)
       unfolding finish

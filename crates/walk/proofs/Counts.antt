@@ -10,16 +10,12 @@ use lib.Dec.{ltb, eqb}
 use Rattle.descriptor.specs.Bits.{pick, bit, beyond}
 use Rattle.descriptor.specs.Program.{Request, Program, done, stop, note, bind, run, reads, ends, nil, cons}
 use Rattle.descriptor.specs.Entry.{decode, nothing}
-use Rattle.descriptor.specs.Memory.{stage1Attributes, stage2Attributes}
 use Rattle.descriptor.specs.declared.access.Access.{Access}
 use Rattle.descriptor.specs.declared.entry.Fetch.{Fetch}
 use Rattle.descriptor.specs.declared.entry.Geometry.{Geometry}
 use Rattle.descriptor.specs.declared.entry.Entry.{Entry}
 use Rattle.descriptor.specs.declared.entry.Entry.the-variants as E
 use Rattle.descriptor.specs.declared.entry.Inherited.{Inherited}
-use Rattle.descriptor.specs.declared.memory.Attributes.{Attributes}
-use Rattle.descriptor.specs.declared.memory.Decoded.{Decoded}
-use Rattle.descriptor.specs.declared.memory.Decoded.the-variants.{Settled, Unsettled}
 use Rattle.descriptor.proofs.Tests.{by-pick}
 use Rattle.descriptor.proofs.Tally.{AllThree, Tight, tight-stop, tight-done, tight-bind, tight-pick, tight-choice, tight-ask}
 use Rattle.walk.specs.declared.answer.Stage.{Stage}
@@ -30,10 +26,12 @@ use Rattle.walk.specs.declared.stage.Leaf.{Leaf}
 use Rattle.walk.specs.declared.stage.Output.{Output}
 use Rattle.walk.specs.declared.stage.Root.{Root}
 use Rattle.walk.specs.declared.stage.Root.the-variants.{Unusable, Usable}
+use Rattle.walk.specs.declared.stage.Checked.{Checked}
+use Rattle.walk.specs.declared.stage.Checked.the-variants.{Passed, Stopped}
 use Rattle.walk.specs.declared.stage.Stage1.{Stage1}
 use Rattle.walk.specs.declared.stage.Stage2.{Stage2}
 use Rattle.walk.specs.Walk.{Reading, fetched, follow, walk, walkFrom}
-use Rattle.walk.specs.Stages.{unless, settled, root2At, check2, translate2, place1, root1At, check1, flat, translate1, finish, access}
+use Rattle.walk.specs.Stages.{give, root2At, check2, translate2, place1, root1At, check1, flat, translate1, finish, access}
 
 -- a usable root has n levels
 abbrev pub HasLevels : ℕ → Root → Type 0
@@ -84,26 +82,10 @@ module _ (m : Request → Fetch) where
   tight-then : {A B : Type 0} (c : ℕ) (p : Reading A) (f : A → Reading B) → Tight m c p → ((a : A) → Tight m 0 (f a)) → Tight m c (bind p f)
   tight-then c p f hp hf = subst (λ z. Tight m z (bind p f)) (add-zero c) (tight-bind m c 0 p f hp hf)
 
-  tight-settled : {A : Type 0} (c : ℕ) (e : Stop) (k : Attributes → Reading A) → ((a : Attributes) → Tight m c (k a)) → (d : Decoded) → Tight m c (settled e k d)
-  unfolding settled
-  tight-settled c e k h (Settled a) = h a
-  tight-settled c e k h Unsettled = tight-stop m c e
-
-  pub tight-unless : {A : Type 0} {c : ℕ} {p : Reading A} (b : Bool) (e : Stop) → Tight m c p → Tight m c (unless b e p)
-  unfolding unless
-  tight-unless b e h = tight-pick m b (λ _. tight-stop m _ e) (λ _. h)
-
-  tight-check2 : (s : Stage2) (a : Access) (w : Bool) (ipa : ℕ) (l : Leaf) → Tight m 0 (check2 s a w ipa l)
-  unfolding check2
-  tight-check2 s a w ipa l = tight-settled 0 _ _ (λ t. tight-unless _ _ (tight-unless _ _ (tight-done m _))) _
-
-  tight-check1 : (s : Stage1) (a : Access) (l : Leaf) → Tight m 0 (check1 s a l)
-  unfolding check1
-  tight-check1 s a l = tight-settled 0 _ _ (λ t. tight-unless _ _ (tight-unless _ _ (tight-done m _))) _
-
-  tight-flat : (s : Stage1) (a : Access) → Tight m 0 (flat s a)
-  unfolding flat
-  tight-flat s a = tight-unless _ _ (tight-unless _ _ (tight-done m _))
+  tight-give : (c : Checked) → Tight m 0 (give c)
+  unfolding give
+  tight-give (Passed o) = tight-done m o
+  tight-give (Stopped e) = tight-stop m 0 e
 
   -- ---- the stages, stage 2 with n2 levels
 
@@ -114,7 +96,7 @@ module _ (m : Request → Fetch) where
         tight-then n2 _ _
         (subst (λ z. Tight m z (walkFrom done (Two ipa w) ipa (root2At s ipa))) (mul-one n2)
         (tight-from done 0 (tight-done m) (Two ipa w) ipa n2 (root2At s ipa) (pick-levels n2 _ (Unusable _ _) (s .root) tt levels)))
-        (tight-check2 s a w ipa)
+        (λ l. tight-give (check2 s a w ipa l))
 
     -- the reads of one stage 2 translation: none with stage 2 off
     abbrev each : ℕ
@@ -134,8 +116,8 @@ module _ (m : Request → Fetch) where
     unfolding translate1
     tight-translate1 s1 root n1 h =
         tight-choice m (λ z. z * suc each) (s1 .on) n1 0
-        (tight-then _ _ _ (tight-from (place1 s a) each tight-place One (a .address) n1 root h) (tight-check1 s1 a))
-        (subst (λ z. Tight m z (flat s1 a)) (sym (zero-mul (suc each))) (tight-flat s1 a))
+        (tight-then _ _ _ (tight-from (place1 s a) each tight-place One (a .address) n1 root h) (λ l. tight-give (check1 s1 a l)))
+        (subst (λ z. Tight m z (give (flat s1 a))) (sym (zero-mul (suc each))) (tight-give (flat s1 a)))
 
     -- with n1 levels in stage 1's root for the address
     pub tight-access : (s1 : Stage1) (n1 : ℕ) → HasLevels n1 (root1At s1 (a .address)) →

@@ -23,19 +23,26 @@ use Rattle.walk.specs.declared.stage.Leaf.{Leaf}
 use Rattle.walk.specs.declared.stage.Output.{Output}
 use Rattle.walk.specs.declared.stage.Root.{Root}
 use Rattle.walk.specs.declared.stage.Root.the-variants.{Unusable}
+use Rattle.walk.specs.declared.stage.Checked.{Checked}
+use Rattle.walk.specs.declared.stage.Checked.the-variants.{Passed, Stopped}
 use Rattle.walk.specs.declared.stage.Half.{Half}
 use Rattle.walk.specs.declared.stage.Stage1.{Stage1}
 use Rattle.walk.specs.declared.stage.Stage2.{Stage2}
 use Rattle.walk.specs.Walk.{Reading, fault, unsettled, walkFrom}
 
 -- stop where the test holds, else go on
-unfoldable pub unless : {A : Type 0} → Bool → Stop → Reading A → Reading A
-unless b e p = pick b (stop e) p
+unfoldable pub unless : Bool → Stop → Checked → Checked
+unless b e c = pick b (Stopped e) c
 
 -- go on with settled attributes
-unfoldable pub settled : {A : Type 0} → Stop → (Attributes → Reading A) → Decoded → Reading A
+unfoldable pub settled : Stop → (Attributes → Checked) → Decoded → Checked
 settled e k (Settled a) = k a
-settled e k Unsettled = stop e
+settled e k Unsettled = Stopped e
+
+-- checks read nothing
+unfoldable pub give : Checked → Reading Output
+give (Passed o) = done o
+give (Stopped e) = stop e
 
 -- ---- stage 2
 
@@ -52,17 +59,17 @@ abbrev pub denied2 : Stage2 → Access → (onWalk device : Bool) → (x : ℕ) 
 denied2 s a onWalk device x = not (stage2Permits onWalk a x) || (device && isFetch a) || (onWalk && s .ptw && device)
 
 -- the checks after stage 2's walk; alignment is never tested on-walk
-unfoldable pub check2 : Stage2 → Access → (onWalk : Bool) (ipa : ℕ) → Leaf → Reading Output
+unfoldable pub check2 : Stage2 → Access → (onWalk : Bool) (ipa : ℕ) → Leaf → Checked
 check2 s a onWalk ipa l =
     settled (unsettled (Two ipa onWalk) (l .level))
     (λ attrs.
     unless (not onWalk && isDevice (attrs .memory) && unaligned a) (Misaligned (Two ipa onWalk))
     (unless (denied2 s a onWalk (isDevice (attrs .memory)) (l .word)) (fault F.Permission (Two ipa onWalk) (l .level))
-    (done (record { address = outputAddress (l .word) (l .shift) ipa; attributes = attrs; level = l .level }))))
+    (Passed (record { address = outputAddress (l .word) (l .shift) ipa; attributes = attrs; level = l .level }))))
     (stage2Attributes (uncached2 s a onWalk) (l .word))
 
 unfoldable pub translate2 : Stage2 → Access → (onWalk : Bool) (ipa : ℕ) → Reading Output
-translate2 s a onWalk ipa = bind (walkFrom done (Two ipa onWalk) ipa (root2At s ipa)) (check2 s a onWalk ipa)
+translate2 s a onWalk ipa = bind (walkFrom done (Two ipa onWalk) ipa (root2At s ipa)) (λ l. give (check2 s a onWalk ipa l))
 
 -- ---- stage 1
 
@@ -101,27 +108,27 @@ abbrev pub denied1 : Stage1 → Access → (device : Bool) → Leaf → Bool
 denied1 s a device l = not (stage1Permits (s .wxn) a (l .inherited) (l .word)) || (device && isFetch a)
 
 -- the checks after stage 1's walk
-unfoldable pub check1 : Stage1 → Access → Leaf → Reading Output
+unfoldable pub check1 : Stage1 → Access → Leaf → Checked
 check1 s a l =
     settled (unsettled One (l .level))
     (λ attrs.
     unless (isDevice (attrs .memory) && unaligned a) (Misaligned One)
     (unless (denied1 s a (isDevice (attrs .memory)) l) (fault F.Permission One (l .level))
-    (done (record { address = outputAddress (l .word) (l .shift) (a .address); attributes = attrs; level = l .level }))))
+    (Passed (record { address = outputAddress (l .word) (l .shift) (a .address); attributes = attrs; level = l .level }))))
     (stage1Attributes (s .mair) (uncached1 s a) (l .word))
 
 -- stage 1 off: the address as it is, if its bits Top down to PAMax are 0; no permission is tested
-unfoldable pub flat : Stage1 → Access → Reading Output
+unfoldable pub flat : Stage1 → Access → Checked
 flat s a =
     let attrs = flatAttributes (s .dc) (isFetch a) (s .i) in
     unless (ltb 0 (a .address % 2 ^ suc (top s (a .address)) / 2 ^ (s .pamax))) (fault F.AddressSize One 0)
     (unless (isDevice (attrs .memory) && unaligned a) (Misaligned One)
-    (done (record { address = a .address % 2 ^ 48; attributes = attrs; level = 0 })))
+    (Passed (record { address = a .address % 2 ^ 48; attributes = attrs; level = 0 })))
 
 -- from the root for this address
 unfoldable pub translate1 : Stage1 → Root → Stage2 → Access → Reading Output
 translate1 s root s2 a =
-    pick (s .on) (bind (walkFrom (place1 s2 a) One (a .address) root) (check1 s a)) (flat s a)
+    pick (s .on) (bind (walkFrom (place1 s2 a) One (a .address) root) (λ l. give (check1 s a l))) (give (flat s a))
 
 -- ---- the access
 

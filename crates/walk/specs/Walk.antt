@@ -47,9 +47,14 @@ unfoldable pub fetched : {A : Type 0} → Stop → (ℕ → Reading A) → Fetch
 fetched e k Absent = stop e
 fetched e k (Word x) = k x
 
+-- stage 1's tables impose on what lies below them
+abbrev pub inheritAt : Stage → Inherited → ℕ → Inherited
+inheritAt One h x = inherit h x
+inheritAt (Two ipa w) h x = h
+
 -- at an entry x with n levels below it; `deeper` is the walk of the table below
 unfoldable pub follow : Geometry → Stage → (n x : ℕ) → Inherited → (ℕ → Inherited → Reading Leaf) → Entry → Reading Leaf
-follow g s n x h deeper (E.Next table) = deeper table (inherit h x)
+follow g s n x h deeper (E.Next table) = deeper table (inheritAt s h x)
 follow g s n x h deeper E.Final = note (3 - n) (done (record { word = x; shift = shift g n; level = 3 - n; inherited = h }))
 follow g s n x h deeper (E.Fault kind) = stop (fault kind s (3 - n))
 follow g s n x h deeper E.Unsettled = stop (unsettled s (3 - n))

@@ -1,3 +1,4 @@
+use crate::answer::Stop;
 use descriptor::entry::FaultKind;
 use descriptor::entry::Geometry;
 use descriptor::entry::Inherited;
@@ -30,6 +31,12 @@ pub struct Output {
     pub address: u64,
     pub attributes: Attributes,
     pub level: u64,
+}
+
+// What the checks after a walk leave of it.
+pub enum Checked {
+    Passed(Output),
+    Stopped(Stop),
 }
 
 // One half of stage 1's addresses: its input size in bits, and its root.
