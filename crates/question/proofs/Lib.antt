@@ -1,3 +1,4 @@
 pub mod Refusals
 pub mod Framing
 pub mod Counts
+pub mod Ran

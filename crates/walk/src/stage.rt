@@ -1,4 +1,5 @@
 use crate::answer::Stop;
+use crate::answer::Translation;
 use descriptor::entry::FaultKind;
 use descriptor::entry::Geometry;
 use descriptor::entry::Inherited;
@@ -26,6 +27,12 @@ pub struct Leaf {
     pub inherited: Inherited,
 }
 
+// How a walk ends.
+pub enum Walked {
+    Ended(Leaf),
+    Stopped(Stop),
+}
+
 // What one stage makes of its input.
 pub struct Output {
     pub address: u64,
@@ -36,6 +43,18 @@ pub struct Output {
 // What the checks after a walk leave of it.
 pub enum Checked {
     Passed(Output),
+    Stopped(Stop),
+}
+
+// Where a stage 1 descriptor lies.
+pub enum Located {
+    At(u64),
+    Stopped(Stop),
+}
+
+// How an access ends.
+pub enum Reached {
+    To(Translation),
     Stopped(Stop),
 }
 

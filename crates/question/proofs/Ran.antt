@@ -1,0 +1,68 @@
+-- Laws of calls that ran a program.
+-- Assumes nothing.
+use mathlib.Core.Path.{_≡_, refl, sym, ap, _∙_, subst}
+use mathlib.Core.List.{List, [], _∷_, _++_, map, map-append, append-nil}
+use Prim.Native.Nat.{ℕ, suc, _+_}
+use native.Mathlib.Numerals.{add-one}
+use native.Mathlib.Omega.{arith}
+use lib.ListN.{length, set, length-append, length-map}
+use lib.Seq.{sets}
+use Rattle.descriptor.specs.Program.{Request, Outcome, reached, stopped, Program, done, stop, note, ask, counted, bind, run, reads}
+use Rattle.descriptor.specs.declared.entry.Fetch.{Fetch}
+use Rattle.descriptor.specs.declared.entry.Fetch.the-variants.{Absent, Word}
+use Rattle.descriptor.proofs.Laws.{on, run-bind, reads-bind}
+use Rattle.walk.specs.Walk.{Reading}
+use Rattle.walk.specs.declared.answer.Stop.{Stop}
+use Rattle.question.specs.Ran.{Ran}
+
+sets-append : (l : List ℕ) (k : ℕ) (u v : List ℕ) → sets l k (u ++ v) ≡ sets (sets l k u) (k + length u) v
+sets-append l k [] v = let z : k + 0 ≡ k = omega arith in rw z
+sets-append l k (a ∷ u) v =
+    let z : suc k + length u ≡ k + suc (length u) = omega arith in
+    sets-append (set l k a) (suc k) u v ∙ rw z
+
+module _ (m : Request → Fetch) where
+  pub ran-done : {A : Type 0} (a : A) (log : List ℕ) (count : ℕ) → Ran m (done a) log count (reached a) count log
+  unfolding run reads
+  ran-done a log count = record { outcome = refl; counted = omega arith; logged = refl }
+
+  pub ran-stop : {A : Type 0} (e : Stop) (log : List ℕ) (count : ℕ) → Ran {A = A} m (stop e) log count (stopped e) count log
+  unfolding run reads
+  ran-stop e log count = record { outcome = refl; counted = omega arith; logged = refl }
+
+  pub ran-note : {A : Type 0} {n : ℕ} {p : Reading A} {log log′ : List ℕ} {count end : ℕ} {o : Outcome Stop A} → Ran m p log count o end log′ → Ran m (note n p) log count o end log′
+  unfolding run reads
+  ran-note r = record { outcome = r .outcome; counted = r .counted; logged = r .logged }
+
+  pub ran-absent : {A : Type 0} {q : Request} {k : Fetch → Reading A} {log log′ : List ℕ} {count end : ℕ} {o : Outcome Stop A} →
+      m q ≡ Absent → Ran m (k Absent) log count o end log′ → Ran m (ask q k) log count o end log′
+  unfolding run reads
+  ran-absent e r = record { outcome = rw e (r .outcome); counted = rw e (r .counted); logged = rw e (r .logged) }
+
+  pub ran-word : {A : Type 0} {q : Request} {k : Fetch → Reading A} {x : ℕ} {log log′ : List ℕ} {count end : ℕ} {o : Outcome Stop A} →
+      m q ≡ Word x → Ran m (k (Word x)) (set log count (q .address)) (count + 1) o end log′ → Ran m (ask q k) log count o end log′
+  unfolding run reads
+  ran-word {count} e r =
+      record { outcome = rw e (r .outcome); counted = rw e (omega (arith, r .counted)); logged = rw e (rw add-one at (r .logged)) }
+
+  pub ran-then : {A B : Type 0} {p : Reading A} (f : A → Reading B) {a : A} {log log₁ log₂ : List ℕ} {count end end₂ : ℕ} {o : Outcome Stop B} →
+      Ran m p log count (reached a) end log₁ → Ran m (f a) log₁ end o end₂ log₂ → Ran m (bind p f) log count o end₂ log₂
+  ran-then {p} f {a} {log} {count} {o} r s =
+      let went : run m p ≡ reached a = sym (r .outcome) in
+      let all : reads m (bind p f) ≡ reads m p ++ reads m (f a) = reads-bind m p f ∙ ap (λ z. reads m p ++ on z (λ b. reads m (f b)) (λ e. [])) went in
+      record {
+        outcome = s .outcome ∙ sym (run-bind m p f ∙ ap (λ z. on z (λ b. run m (f b)) stopped) went);
+        counted = rw (all, length-append (reads m p)) (omega (arith, r .counted, s .counted));
+        logged = rw (all, map-append) (s .logged ∙ rw (r .logged, r .counted, sets-append, length-map));
+      }
+
+  pub ran-stopped : {A B : Type 0} {p : Reading A} (f : A → Reading B) {e : Stop} {log log₁ : List ℕ} {count end : ℕ} →
+      Ran m p log count (stopped e) end log₁ → Ran m (bind p f) log count (stopped e) end log₁
+  ran-stopped {p} f {e} r =
+      let went : run m p ≡ stopped e = sym (r .outcome) in
+      let all : reads m (bind p f) ≡ reads m p ++ [] = reads-bind m p f ∙ ap (λ z. reads m p ++ on z (λ b. reads m (f b)) (λ e. [])) went in
+      record {
+        outcome = sym (run-bind m p f ∙ ap (λ z. on z (λ b. run m (f b)) stopped) went);
+        counted = rw (all, append-nil) (r .counted);
+        logged = rw (all, append-nil) (r .logged);
+      }
