@@ -1,6 +1,6 @@
 -- Tests and choices by them.
 -- Assumes nothing.
-use mathlib.Core.Path.{_≡_, refl}
+use mathlib.Core.Path.{_≡_, refl, sym, _∙_}
 use mathlib.Core.Bool.{Bool, true, false, _&&_, true≢false, false≢true}
 use borrow.Author.Tests.{lt-ltb, le-ltb, le-leb, lt-leb, eq-eqb, ne-eqb}
 use Rattle.descriptor.specs.Bits.{pick}
@@ -31,3 +31,16 @@ pub pick-false : {A : Type 0} (b : Bool) (p q : A) → b ≡ false → pick b p 
 unfolding pick
 pick-false true p q e = absurd (true≢false e)
 pick-false false p q e = refl
+
+-- what a call answered, and what that answer was, tell the value of the test that the call is for
+pub told : {r b v : Bool} → r ≡ b → r ≡ v → b ≡ v
+told p q = sym p ∙ q
+
+pub then : {A : Type 0} (b : Bool) (x p q : A) → b ≡ true → x ≡ p → x ≡ pick b p q
+then b x p q e h = h ∙ sym (pick-true b p q e)
+
+pub else : {A : Type 0} (b : Bool) (x p q : A) → b ≡ false → x ≡ q → x ≡ pick b p q
+else b x p q e h = h ∙ sym (pick-false b p q e)
+
+-- a return at the end of nested choices
+pub ruleset choices = (then, else, told, lt-ltb, le-ltb, le-leb, lt-leb, eq-eqb, ne-eqb)
