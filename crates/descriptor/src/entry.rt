@@ -3,7 +3,6 @@ use crate::bits::bit;
 use crate::bits::lower;
 use crate::bits::upper;
 ghost use mathlib.Core.Path.{_≡_};
-ghost use mathlib.Core.Bool.{_||_};
 ghost use Rattle.descriptor.specs.Entry as Entries;
 
 // What a read of a descriptor finds: its word, or nothing where its bytes are not all there.
@@ -81,11 +80,7 @@ fn contiguous(g: Geometry, n: u64, x: u64) -> bool
     let block = g.block;
     let input = g.input;
     let least = g.contiguous;
-    if n == block {
-        if input < least { bit(x, 52) } else { false }
-    } else {
-        false
-    }
+    (n == block) & (input < least) & bit(x, 52)
 }
 
 // A table's entry: the next table, or an address beyond the output size.
@@ -152,20 +147,14 @@ pub fn nothing() -> Inherited
     }
 }
 
-fn either(a: bool, b: bool) -> bool
-    ensures { λ r. ⌜ r ≡ a || b ⌝ }
-{
-    if a { true } else { b }
-}
-
 // What is imposed once the walk has passed the table entry x: APTable is bits 62:61, XNTable 60, PXNTable 59.
 pub fn inherit(h: Inherited, x: u64) -> Inherited
     ensures { λ r. ⌜ r ≡ Entries.inherit h x ⌝ }
 {
     Inherited {
-        readonly: either(h.readonly, bit(x, 62)),
-        el1only: either(h.el1only, bit(x, 61)),
-        xn: either(h.xn, bit(x, 60)),
-        pxn: either(h.pxn, bit(x, 59)),
+        readonly: h.readonly | bit(x, 62),
+        el1only: h.el1only | bit(x, 61),
+        xn: h.xn | bit(x, 60),
+        pxn: h.pxn | bit(x, 59),
     }
 }

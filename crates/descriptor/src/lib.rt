@@ -3,3 +3,4 @@ pub mod access;
 pub mod bits;
 pub mod entry;
 pub mod memory;
+pub mod permission;

@@ -1,6 +1,5 @@
 -- `entry::contiguous` meets its contract.
 -- Assumes nothing.
-use Rattle.descriptor.proofs.Tests.{tests}
 use borrow.Author.Needs.{needs}
 use Rattle.descriptor.proofs.entry.contiguous.Statement.{statement}
 use Rattle.descriptor.proofs.entry.contiguous.Tie as tie
@@ -10,6 +9,4 @@ contiguous-spec =
     tie.close
     (tie.spec
     (λ c κs. search needs)
-    (λ c. search (needs, tests))
-    (λ c. search (needs, tests))
-    (λ c. search (needs, tests)))
+    (λ c. cc))
