@@ -6,6 +6,9 @@ use crate::access::is_write;
 use crate::bits::bit;
 use crate::entry::Inherited;
 ghost use mathlib.Core.Path.{_≡_};
+ghost use mathlib.Core.Bool.{_&&_, _||_, not};
+ghost use Rattle.descriptor.specs.Bits as Bits;
+ghost use Rattle.descriptor.specs.Access.{isRead};
 ghost use Rattle.descriptor.specs.Permission as Permissions;
 
 // AP is bits 7:6. Bit 7 clear: EL1 may write.
@@ -72,17 +75,30 @@ pub fn stage1_permits(wxn: bool, a: Access, h: Inherited, x: u64) -> bool
     }
 }
 
-// Stage 2 lets the access through: S2AP is bits 7:6, XN is bit 54. A read of a descriptor of stage 1 is a read, whatever the access is.
+// A read of stage 1's tables is checked as a read, whatever the access is.
+fn as_read(onwalk: bool, a: Access) -> bool
+    ensures { λ r. ⌜ r ≡ onwalk || isRead a ⌝ }
+{
+    onwalk | is_read(a)
+}
+
+fn stage2_fetches(x: u64) -> bool
+    ensures { λ r. ⌜ r ≡ Bits.bit x 6 && not (Bits.bit x 54) ⌝ }
+{
+    bit(x, 6) & !bit(x, 54)
+}
+
+// Stage 2 lets the access through: S2AP is bits 7:6, XN is bit 54.
 pub fn stage2_permits(onwalk: bool, a: Access, x: u64) -> bool
     ensures { λ r. ⌜ r ≡ Permissions.stage2Permits onwalk a x ⌝ }
 {
-    if onwalk | is_read(a) {
+    if as_read(onwalk, a) {
         bit(x, 6)
     } else {
         if is_write(a) {
             bit(x, 7)
         } else {
-            bit(x, 6) & !bit(x, 54)
+            stage2_fetches(x)
         }
     }
 }

@@ -16,7 +16,6 @@ stage2-permits-spec =
     (λ c κs. search needs)
     (λ c κs. search needs)
     (λ c κs. search needs)
-    (λ c κs. search needs)
     (λ c. search choices)
     (λ c. search choices)
     (λ c. search choices))
