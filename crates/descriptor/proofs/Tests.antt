@@ -2,6 +2,8 @@
 -- Assumes nothing.
 use mathlib.Core.Path.{_≡_, refl, sym, _∙_}
 use mathlib.Core.Bool.{Bool, true, false, _&&_, true≢false, false≢true}
+use Prim.Native.Nat.{ℕ, _≤_, _<_}
+use lib.Dec.{leb}
 use borrow.Author.Tests.{lt-ltb, le-ltb, le-leb, lt-leb, eq-eqb, ne-eqb}
 use Rattle.descriptor.specs.Bits.{pick}
 
@@ -36,6 +38,13 @@ pick-false false p q e = refl
 pub told : {r b v : Bool} → r ≡ b → r ≡ v → b ≡ v
 told p q = sym p ∙ q
 
+-- the same for two numbers that calls answered
+pub told-le : {m n p q : ℕ} → m ≡ p → n ≡ q → m ≤ n → leb p q ≡ true
+told-le {m} {n} e f h = rw (← e, ← f) (le-leb m n h)
+
+pub told-lt : {m n p q : ℕ} → m ≡ p → n ≡ q → n < m → leb p q ≡ false
+told-lt {m} {n} e f h = rw (← e, ← f) (lt-leb m n h)
+
 pub then : {A : Type 0} (b : Bool) (x p q : A) → b ≡ true → x ≡ p → x ≡ pick b p q
 then b x p q e h = h ∙ sym (pick-true b p q e)
 
@@ -43,4 +52,4 @@ pub else : {A : Type 0} (b : Bool) (x p q : A) → b ≡ false → x ≡ q → x
 else b x p q e h = h ∙ sym (pick-false b p q e)
 
 -- a return at the end of nested choices
-pub ruleset choices = (then, else, told, lt-ltb, le-ltb, le-leb, lt-leb, eq-eqb, ne-eqb)
+pub ruleset choices = (then, else, told, told-le, told-lt, lt-ltb, le-ltb, le-leb, lt-leb, eq-eqb, ne-eqb)
