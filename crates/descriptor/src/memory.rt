@@ -124,16 +124,18 @@ fn is_non_cacheable(c: Cacheability) -> bool
     }
 }
 
+fn neither_cacheable(outer: Cacheability, inner: Cacheability) -> bool
+    ensures { λ r. ⌜ r ≡ Memories.isNonCacheable outer && Memories.isNonCacheable inner ⌝ }
+{
+    is_non_cacheable(outer) & is_non_cacheable(inner)
+}
+
 // Normal memory that is Non-cacheable both ways is outer shareable.
 fn normal_shareability(outer: Cacheability, inner: Cacheability, s: Shareability) -> Shareability
     ensures { λ r. ⌜ r ≡ pick (Memories.isNonCacheable outer && Memories.isNonCacheable inner) Shareability.OuterShareable s ⌝ }
 {
-    if is_non_cacheable(outer) {
-        if is_non_cacheable(inner) {
-            Shareability::OuterShareable
-        } else {
-            s
-        }
+    if neither_cacheable(outer, inner) {
+        Shareability::OuterShareable
     } else {
         s
     }
