@@ -13,5 +13,5 @@ reported-spec =
     (λ c. search needs)
     (λ c. search needs)
     (λ c κs. search needs)
-    (λ c. cc)
-    (λ c. cc))
+    (λ c. simp (c .before .m .given .1))
+    (λ c. simp (c .before .before .m2 .given .1, c .normal-shareability .ensures)))
