@@ -9,4 +9,4 @@ listed-spec =
     tie.close
     (tie.spec
     (λ c κs. search needs)
-    (λ c. cc))
+    (λ c. simp (c .listed-size .ensures)))

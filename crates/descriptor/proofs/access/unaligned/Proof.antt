@@ -10,4 +10,4 @@ unaligned-spec =
     (tie.spec
     (λ c κs. search needs)
     (λ c κs. search needs)
-    (λ c. cc))
+    (λ c. simp (c .remainder .ensures, c .before .is-fetch .ensures)))

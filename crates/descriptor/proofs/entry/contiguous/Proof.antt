@@ -9,4 +9,4 @@ contiguous-spec =
     tie.close
     (tie.spec
     (λ c κs. search needs)
-    (λ c. cc))
+    (λ c. simp (c .bit .ensures)))

@@ -12,4 +12,4 @@ inherit-spec =
     (λ c κs. search needs)
     (λ c κs. search needs)
     (λ c κs. search needs)
-    (λ c. cc))
+    (λ c. simp (c .before .bit4 .ensures, c .before .before .before .bit3 .ensures, c .before .before .before .before .before .bit2 .ensures, c .before .before .before .before .before .before .before .bit .ensures)))

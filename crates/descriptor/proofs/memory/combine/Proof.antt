@@ -11,4 +11,4 @@ combine-spec =
     (λ c κs. search needs)
     (λ c κs. search needs)
     (λ c κs. search needs)
-    (λ c. cc))
+    (λ c. simp (c .reported .ensures, c .before .combine-shareability .ensures, c .before .before .combine-memory .ensures)))

@@ -1,6 +1,5 @@
 -- `memory::combine_memory` meets its contract.
 -- Assumes nothing.
-use Rattle.descriptor.specs.Memory.{combineMemory}
 use borrow.Author.Needs.{needs}
 use Rattle.descriptor.proofs.memory.combine_memory.Statement.{statement}
 use Rattle.descriptor.proofs.memory.combine_memory.Tie as tie
@@ -13,5 +12,5 @@ combine-memory-spec =
     (λ c κs. search needs)
     (λ c. search needs)
     (λ c κs. search needs)
-    (λ c. cc)
-    (λ c. cc))
+    (λ c. simp (c .combine-with-device .ensures, c .before .before .a .given .1))
+    (λ c. simp (c .combine-with-normal .ensures, c .before .before .a2 .given .1)))

@@ -13,5 +13,5 @@ combine-with-device-spec =
     (λ c. search needs)
     (λ c κs. search needs)
     (λ c. search needs)
-    (λ c. cc)
-    (λ c. cc))
+    (λ c. simp (c .combine-device .ensures, c .before .before .b .given .1))
+    (λ c. simp (c .enum-told .given .1)))

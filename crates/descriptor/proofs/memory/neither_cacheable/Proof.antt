@@ -10,4 +10,4 @@ neither-cacheable-spec =
     (tie.spec
     (λ c κs. search needs)
     (λ c κs. search needs)
-    (λ c. cc))
+    (λ c. simp (c .is-non-cacheable2 .ensures, c .before .is-non-cacheable .ensures)))

@@ -13,4 +13,4 @@ stage1-attributes-spec =
     (λ c. search needs)
     (λ c κs. search needs)
     (λ c κs. search needs)
-    (λ c. cc))
+    (λ c. simp (c .mair-byte .ensures, c .before .field3 .ensures, c .before .before .field2 .ensures, c .before .before .before .field .ensures)))

@@ -12,4 +12,4 @@ stage2-attributes-spec =
     (λ c κs. search needs)
     (λ c κs. search needs)
     (λ c κs. search needs)
-    (λ c. cc))
+    (λ c. simp (c .stage2-codes .ensures, c .before .field3 .ensures, c .before .before .field2 .ensures, c .before .before .before .field .ensures)))

@@ -9,4 +9,4 @@ as-read-spec =
     tie.close
     (tie.spec
     (λ c κs. search needs)
-    (λ c. cc))
+    (λ c. simp (c .is-read .ensures)))

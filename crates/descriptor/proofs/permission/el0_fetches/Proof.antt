@@ -10,4 +10,4 @@ el0-fetches-spec =
     (tie.spec
     (λ c κs. search needs)
     (λ c κs. search needs)
-    (λ c. cc))
+    (λ c. simp (c .before .bit .ensures, c .before .before .el0-writes .ensures)))

@@ -10,4 +10,4 @@ el0-writes-spec =
     (tie.spec
     (λ c κs. search needs)
     (λ c κs. search needs)
-    (λ c. cc))
+    (λ c. simp (c .el1-writes .ensures, c .before .el0-reads .ensures)))

@@ -11,4 +11,4 @@ el1-fetches-spec =
     (λ c κs. search needs)
     (λ c κs. search needs)
     (λ c κs. search needs)
-    (λ c. cc))
+    (λ c. simp (c .before .bit .ensures, c .before .before .el0-writes .ensures, c .before .before .before .el1-writes .ensures)))

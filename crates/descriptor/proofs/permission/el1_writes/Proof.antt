@@ -9,4 +9,4 @@ el1-writes-spec =
     tie.close
     (tie.spec
     (λ c κs. search needs)
-    (λ c. cc))
+    (λ c. simp (c .before .bit .ensures)))

@@ -10,4 +10,4 @@ stage2-fetches-spec =
     (tie.spec
     (λ c κs. search needs)
     (λ c κs. search needs)
-    (λ c. cc))
+    (λ c. simp (c .bit2 .ensures, c .before .bit .ensures)))
