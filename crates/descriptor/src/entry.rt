@@ -61,12 +61,12 @@ pub fn shape_of(g: Geometry, n: u64, x: u64) -> Shape
     if bit(x, 0) {
         if bit(x, 1) {
             if n == 0 { Shape::Leaf } else { Shape::Table }
+        } else if n == 0 {
+            Shape::Void
+        } else if n <= block {
+            Shape::Leaf
         } else {
-            if n == 0 {
-                Shape::Void
-            } else {
-                if n <= block { Shape::Leaf } else { Shape::Void }
-            }
+            Shape::Void
         }
     } else {
         Shape::Void
@@ -103,16 +103,12 @@ fn at_leaf(g: Geometry, n: u64, x: u64) -> Entry
     let output = g.output;
     if contiguous(g, n, x) {
         Entry::Unsettled
+    } else if beyond(x, output) {
+        Entry::Fault(FaultKind::AddressSize)
+    } else if bit(x, 10) {
+        Entry::Final
     } else {
-        if beyond(x, output) {
-            Entry::Fault(FaultKind::AddressSize)
-        } else {
-            if bit(x, 10) {
-                Entry::Final
-            } else {
-                Entry::Fault(FaultKind::AccessFlag)
-            }
-        }
+        Entry::Fault(FaultKind::AccessFlag)
     }
 }
 

@@ -49,16 +49,12 @@ fn device_of(v: u64) -> DeviceType
 {
     if v == 0 {
         DeviceType::NGnRnE
+    } else if v == 1 {
+        DeviceType::NGnRE
+    } else if v == 2 {
+        DeviceType::NGRE
     } else {
-        if v == 1 {
-            DeviceType::NGnRE
-        } else {
-            if v == 2 {
-                DeviceType::NGRE
-            } else {
-                DeviceType::GRE
-            }
-        }
+        DeviceType::GRE
     }
 }
 
@@ -81,12 +77,10 @@ fn stage2_bits(v: u64) -> Cacheability
 {
     if v == 1 {
         Cacheability::NonCacheable
+    } else if v == 2 {
+        Cacheability::WriteThrough
     } else {
-        if v == 2 {
-            Cacheability::WriteThrough
-        } else {
-            Cacheability::WriteBack
-        }
+        Cacheability::WriteBack
     }
 }
 
@@ -96,12 +90,10 @@ fn shareability_of(v: u64) -> Shareability
 {
     if v == 2 {
         Shareability::OuterShareable
+    } else if v == 3 {
+        Shareability::InnerShareable
     } else {
-        if v == 3 {
-            Shareability::InnerShareable
-        } else {
-            Shareability::NonShareable
-        }
+        Shareability::NonShareable
     }
 }
 
@@ -200,12 +192,10 @@ fn mair_byte(uncached: bool, sh: u64, byte: u64) -> Decoded
         } else {
             Decoded::Unsettled
         }
+    } else if inner == 0 {
+        Decoded::Unsettled
     } else {
-        if inner == 0 {
-            Decoded::Unsettled
-        } else {
-            normal(uncached, sh, mair_nibble(outer), mair_nibble(inner))
-        }
+        normal(uncached, sh, mair_nibble(outer), mair_nibble(inner))
     }
 }
 
@@ -223,12 +213,10 @@ fn stage2_codes(uncached: bool, sh: u64, outer: u64, inner: u64) -> Decoded
 {
     if outer == 0 {
         device(device_of(inner))
+    } else if inner == 0 {
+        Decoded::Unsettled
     } else {
-        if inner == 0 {
-            Decoded::Unsettled
-        } else {
-            normal(uncached, sh, stage2_bits(outer), stage2_bits(inner))
-        }
+        normal(uncached, sh, stage2_bits(outer), stage2_bits(inner))
     }
 }
 
@@ -251,31 +239,29 @@ pub fn flat_attributes(dc: bool, fetch: bool, i: bool) -> Attributes
             },
             Shareability::NonShareable,
         )
-    } else {
-        if fetch {
-            if i {
-                reported(
-                    MemoryType::Normal {
-                        outer: Cacheability::WriteThrough,
-                        inner: Cacheability::WriteThrough,
-                    },
-                    Shareability::OuterShareable,
-                )
-            } else {
-                reported(
-                    MemoryType::Normal {
-                        outer: Cacheability::NonCacheable,
-                        inner: Cacheability::NonCacheable,
-                    },
-                    Shareability::OuterShareable,
-                )
-            }
+    } else if fetch {
+        if i {
+            reported(
+                MemoryType::Normal {
+                    outer: Cacheability::WriteThrough,
+                    inner: Cacheability::WriteThrough,
+                },
+                Shareability::OuterShareable,
+            )
         } else {
             reported(
-                MemoryType::Device(DeviceType::NGnRnE),
+                MemoryType::Normal {
+                    outer: Cacheability::NonCacheable,
+                    inner: Cacheability::NonCacheable,
+                },
                 Shareability::OuterShareable,
             )
         }
+    } else {
+        reported(
+            MemoryType::Device(DeviceType::NGnRnE),
+            Shareability::OuterShareable,
+        )
     }
 }
 

@@ -55,23 +55,17 @@ pub fn stage1_permits(wxn: bool, a: Access, h: Inherited, x: u64) -> bool
     if at_el0(a) {
         if is_read(a) {
             el0_reads(h, x)
+        } else if is_write(a) {
+            el0_writes(h, x)
         } else {
-            if is_write(a) {
-                el0_writes(h, x)
-            } else {
-                el0_fetches(wxn, h, x)
-            }
+            el0_fetches(wxn, h, x)
         }
+    } else if is_read(a) {
+        true
+    } else if is_write(a) {
+        el1_writes(h, x)
     } else {
-        if is_read(a) {
-            true
-        } else {
-            if is_write(a) {
-                el1_writes(h, x)
-            } else {
-                el1_fetches(wxn, h, x)
-            }
-        }
+        el1_fetches(wxn, h, x)
     }
 }
 
@@ -94,11 +88,9 @@ pub fn stage2_permits(onwalk: bool, a: Access, x: u64) -> bool
 {
     if as_read(onwalk, a) {
         bit(x, 6)
+    } else if is_write(a) {
+        bit(x, 7)
     } else {
-        if is_write(a) {
-            bit(x, 7)
-        } else {
-            stage2_fetches(x)
-        }
+        stage2_fetches(x)
     }
 }
