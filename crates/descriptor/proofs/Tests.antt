@@ -34,22 +34,24 @@ unfolding pick
 pick-false true p q e = absurd (true≢false e)
 pick-false false p q e = refl
 
--- what a call answered, and what that answer was, tell the value of the test that the call is for
-pub told : {r b v : Bool} → r ≡ b → r ≡ v → b ≡ v
-told p q = sym p ∙ q
+-- ---- what code returns at the end of nested tests
 
--- the same for two numbers that calls answered
-pub told-le : {m n p q : ℕ} → m ≡ p → n ≡ q → m ≤ n → leb p q ≡ true
-told-le {m} {n} e f h = rw (← e, ← f) (le-leb m n h)
-
-pub told-lt : {m n p q : ℕ} → m ≡ p → n ≡ q → n < m → leb p q ≡ false
-told-lt {m} {n} e f h = rw (← e, ← f) (lt-leb m n h)
-
+-- what a choice is, by its test
 pub then : {A : Type 0} (b : Bool) (x p q : A) → b ≡ true → x ≡ p → x ≡ pick b p q
 then b x p q e h = h ∙ sym (pick-true b p q e)
 
 pub else : {A : Type 0} (b : Bool) (x p q : A) → b ≡ false → x ≡ q → x ≡ pick b p q
 else b x p q e h = h ∙ sym (pick-false b p q e)
 
--- a return at the end of nested choices
-pub ruleset choices = (then, else, told, told-le, told-lt, lt-ltb, le-ltb, le-leb, lt-leb, eq-eqb, ne-eqb)
+-- a test's value, where a call answered r for it
+pub told : {r b v : Bool} → r ≡ b → r ≡ v → b ≡ v
+told p q = sym p ∙ q
+
+-- a test's value, where calls answered m and n for its two numbers
+pub told-le : {m n p q : ℕ} → m ≡ p → n ≡ q → m ≤ n → leb p q ≡ true
+told-le {m} {n} e f h = rw (← e, ← f) (le-leb m n h)
+
+pub told-lt : {m n p q : ℕ} → m ≡ p → n ≡ q → n < m → leb p q ≡ false
+told-lt {m} {n} e f h = rw (← e, ← f) (lt-leb m n h)
+
+pub ruleset choices = (then, else, told, told-le, told-lt, tests)
