@@ -1,4 +1,4 @@
-// Fields of a word, by shifts and remainders. A shift by 64 or more is undefined in the machine, so each tests its amount first.
+// Fields of a word, by shifts and remainders. A shift of a word must be by less than 64, so each function tests its amount first.
 ghost use mathlib.Core.Path.{_≡_};
 ghost use Prim.Native.Nat.{_%_, _^_};
 ghost use Rattle.descriptor.specs.Bits as Bits;

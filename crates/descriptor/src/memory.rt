@@ -149,6 +149,13 @@ fn reported(m: MemoryType, s: Shareability) -> Attributes
     }
 }
 
+// Normal memory, the same both ways.
+fn alike(c: Cacheability) -> MemoryType
+    ensures { λ r. ⌜ r ≡ MemoryType.Normal c c ⌝ }
+{
+    MemoryType::Normal { outer: c, inner: c }
+}
+
 // Normal memory with caching off is Non-cacheable.
 fn cached(uncached: bool, outer: Cacheability, inner: Cacheability) -> MemoryType
     ensures { λ r. ⌜ r ≡ pick uncached (MemoryType.Normal Cacheability.NonCacheable Cacheability.NonCacheable) (MemoryType.Normal outer inner) ⌝ }
@@ -232,28 +239,16 @@ pub fn flat_attributes(dc: bool, fetch: bool, i: bool) -> Attributes
     ensures { λ r. ⌜ r ≡ Memories.flatAttributes dc fetch i ⌝ }
 {
     if dc {
-        reported(
-            MemoryType::Normal {
-                outer: Cacheability::WriteBack,
-                inner: Cacheability::WriteBack,
-            },
-            Shareability::NonShareable,
-        )
+        reported(alike(Cacheability::WriteBack), Shareability::NonShareable)
     } else if fetch {
         if i {
             reported(
-                MemoryType::Normal {
-                    outer: Cacheability::WriteThrough,
-                    inner: Cacheability::WriteThrough,
-                },
+                alike(Cacheability::WriteThrough),
                 Shareability::OuterShareable,
             )
         } else {
             reported(
-                MemoryType::Normal {
-                    outer: Cacheability::NonCacheable,
-                    inner: Cacheability::NonCacheable,
-                },
+                alike(Cacheability::NonCacheable),
                 Shareability::OuterShareable,
             )
         }
@@ -265,7 +260,7 @@ pub fn flat_attributes(dc: bool, fetch: bool, i: bool) -> Attributes
     }
 }
 
-// The strictest is 0.
+// Ranks: 0 is the strictest, and of two the stricter wins.
 fn device_rank(d: DeviceType) -> u64
     ensures { λ r. ⌜ r ≡ Memories.deviceRank d ⌝ }
 {

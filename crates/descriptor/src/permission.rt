@@ -31,7 +31,7 @@ fn el0_writes(h: Inherited, x: u64) -> bool
     el0_reads(h, x) & el1_writes(h, x)
 }
 
-// Bit 54 is XN, which at EL1&0 is UXN: it is EL0's.
+// Bit 54 is UXN. An EL0 fetch asks for no AP bit.
 fn el0_fetches(wxn: bool, h: Inherited, x: u64) -> bool
     ensures { λ r. ⌜ r ≡ Permissions.el0Fetches wxn h x ⌝ }
 {
@@ -76,6 +76,7 @@ fn as_read(onwalk: bool, a: Access) -> bool
     onwalk | is_read(a)
 }
 
+// A fetch is a read of what XN does not shut.
 fn stage2_fetches(x: u64) -> bool
     ensures { λ r. ⌜ r ≡ Bits.bit x 6 && not (Bits.bit x 54) ⌝ }
 {
