@@ -1,4 +1,5 @@
 pub mod Tests
+pub mod Shifts
 pub mod Laws
 pub mod Holds
 pub mod Tally

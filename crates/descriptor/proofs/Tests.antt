@@ -1,7 +1,9 @@
 -- Tests and choices by them.
 -- Assumes nothing.
-use mathlib.Core.Path.{_≡_, refl}
+use mathlib.Core.Path.{_≡_, refl, sym, _∙_}
 use mathlib.Core.Bool.{Bool, true, false, _&&_, true≢false, false≢true}
+use Prim.Native.Nat.{ℕ, _≤_, _<_}
+use lib.Dec.{leb}
 use borrow.Author.Tests.{lt-ltb, le-ltb, le-leb, lt-leb, eq-eqb, ne-eqb}
 use Rattle.descriptor.specs.Bits.{pick}
 
@@ -31,3 +33,25 @@ pub pick-false : {A : Type 0} (b : Bool) (p q : A) → b ≡ false → pick b p 
 unfolding pick
 pick-false true p q e = absurd (true≢false e)
 pick-false false p q e = refl
+
+-- ---- what code returns at the end of nested tests
+
+-- what a choice is, by its test
+pub then : {A : Type 0} (b : Bool) (x p q : A) → b ≡ true → x ≡ p → x ≡ pick b p q
+then b x p q e h = h ∙ sym (pick-true b p q e)
+
+pub else : {A : Type 0} (b : Bool) (x p q : A) → b ≡ false → x ≡ q → x ≡ pick b p q
+else b x p q e h = h ∙ sym (pick-false b p q e)
+
+-- a test's value, where a call answered r for it
+pub told : {r b v : Bool} → r ≡ b → r ≡ v → b ≡ v
+told p q = sym p ∙ q
+
+-- a test's value, where calls answered m and n for its two numbers
+pub told-le : {m n p q : ℕ} → m ≡ p → n ≡ q → m ≤ n → leb p q ≡ true
+told-le {m} {n} e f h = rw (← e, ← f) (le-leb m n h)
+
+pub told-lt : {m n p q : ℕ} → m ≡ p → n ≡ q → n < m → leb p q ≡ false
+told-lt {m} {n} e f h = rw (← e, ← f) (lt-leb m n h)
+
+pub ruleset choices = (then, else, told, told-le, told-lt, tests)

@@ -1,0 +1,14 @@
+-- `memory::normal_shareability` meets its contract.
+-- Assumes nothing.
+use Rattle.descriptor.proofs.Tests.{choices}
+use borrow.Author.Needs.{needs}
+use Rattle.descriptor.proofs.memory.normal_shareability.Statement.{statement}
+use Rattle.descriptor.proofs.memory.normal_shareability.Tie as tie
+
+pub normal-shareability-spec : {M : Type 1} → statement M
+normal-shareability-spec =
+    tie.close
+    (tie.spec
+    (λ c κs. search needs)
+    (λ c. search choices)
+    (λ c. search choices))

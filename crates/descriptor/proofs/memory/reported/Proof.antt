@@ -1,0 +1,17 @@
+-- `memory::reported` meets its contract.
+-- Assumes nothing.
+use Rattle.descriptor.specs.Memory.{reported}
+use borrow.Author.Needs.{needs}
+use Rattle.descriptor.proofs.memory.reported.Statement.{statement}
+use Rattle.descriptor.proofs.memory.reported.Tie as tie
+
+pub reported-spec : {M : Type 1} → statement M
+unfolding reported
+reported-spec =
+    tie.close
+    (tie.spec
+    (λ c. search needs)
+    (λ c. search needs)
+    (λ c κs. search needs)
+    (λ c. simp (c .before .m .given .1))
+    (λ c. simp (c .before .before .m2 .given .1, c .normal-shareability .ensures)))
