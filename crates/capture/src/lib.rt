@@ -39,8 +39,8 @@ pub fn fetch(bytes: &[u8], base: u64, address: u64) -> Fetch
     if base <= address {
         let at = address - base;
         let n = bytes.len() as u64;
-        if at <= n {
-            if 8 <= n - at {
+        if 8 <= n {
+            if at <= n - 8 {
                 Fetch::Word(word(bytes, at as usize))
             } else {
                 Fetch::Absent
