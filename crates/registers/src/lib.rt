@@ -4,6 +4,7 @@ use sctlr::Sctlr;
 use tcr::Tcr;
 use vtcr::Vtcr;
 
+pub mod accepted;
 pub mod hcr;
 pub mod sctlr;
 pub mod tcr;
