@@ -6,6 +6,7 @@ use vtcr::Vtcr;
 
 pub mod accepted;
 pub mod hcr;
+pub mod level;
 pub mod sctlr;
 pub mod tcr;
 pub mod vtcr;
