@@ -62,7 +62,7 @@ pub fn levels_below(start: i64) -> u64
 }
 
 // A difference, 0 where there is none.
-fn less(a: u64, b: u64) -> u64
+pub fn less(a: u64, b: u64) -> u64
     ensures { λ r. ⌜ r ≡ a - b ⌝ }
 {
     if b < a { a - b } else { 0 }

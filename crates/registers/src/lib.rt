@@ -5,9 +5,11 @@ use tcr::Tcr;
 use vtcr::Vtcr;
 
 pub mod accepted;
+mod base;
 pub mod hcr;
 pub mod level;
 pub mod sctlr;
+pub mod stages;
 pub mod tcr;
 pub mod vtcr;
 

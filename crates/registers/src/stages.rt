@@ -1,0 +1,92 @@
+// The stages of a walk, as registers give them (01, Walk). Every register value has its stages, accepted or not.
+ghost use mathlib.Core.Path.{_≡_};
+ghost use Prim.Native.Nat.{_≤_, _<_};
+ghost use Rattle.descriptor.specs.Bits.{pick};
+ghost use Rattle.descriptor.specs.declared.entry.FaultKind.the-variants.{Translation};
+ghost use Rattle.walk.specs.declared.stage.Root.the-variants.{Unusable};
+ghost use Rattle.registers.specs.Roots as R;
+use crate::El1;
+use crate::El2;
+use crate::accepted;
+use crate::base;
+use crate::level;
+use descriptor::entry::FaultKind;
+use descriptor::entry::Geometry;
+use walk::stage::Half;
+use walk::stage::Root;
+use walk::stage::Table;
+
+// The root table at a base register, with n levels below it. No bit of the register may lie beyond the output size.
+fn root_of(input: u64, output: u64, n: u64, register: u64) -> Root
+    requires { ⌜ (input ≤ 64) × (n ≤ 8) ⌝ }
+    ensures { λ r. ⌜ r ≡ R.rootOf (R.fourK input output) n register ⌝ }
+{
+    if base::beyond(register, output) {
+        Root::Unusable {
+            kind: FaultKind::AddressSize,
+            level: 0,
+        }
+    } else {
+        let bits = level::less(input, 12 + 9 * n);
+        // The 4KB granule.
+        let geometry = Geometry {
+            granule: 12,
+            stride: 9,
+            input,
+            output,
+            block: 2,
+            contiguous: 34,
+        };
+        Root::Usable(Table {
+            geometry,
+            levels: n + 1,
+            bits,
+            base: base::upper(register, 3 + bits),
+        })
+    }
+}
+
+// No root where a test holds.
+fn unless(test: bool, root: Root) -> Root
+    ensures { λ r. ⌜ r ≡ pick test (Unusable Translation 0) root ⌝ }
+{
+    if test {
+        Root::Unusable {
+            kind: FaultKind::Translation,
+            level: 0,
+        }
+    } else {
+        root
+    }
+}
+
+// A half of stage 1, by its size field, EPD and TTBR.
+fn half1(ips: u64, tnsz: u64, epd: bool, ttbr: u64) -> Half
+    requires { ⌜ tnsz < 64 ⌝ }
+    ensures { λ r. ⌜ r ≡ R.half1 ips tnsz epd ttbr ⌝ }
+{
+    let size = 64 - tnsz;
+    let n = level::levels_below(level::start1(tnsz));
+    let root = root_of(size, level::output_size(ips), n, ttbr);
+    Half {
+        size,
+        root: unless(epd, root),
+    }
+}
+
+// Stage 2 starts at no level below 0, at level 0 only where PAMax is over 42, and with 1 to 13 index bits.
+pub fn root2(r: El2) -> Root
+    ensures { λ s. ⌜ s ≡ R.root2 r ⌝ }
+{
+    let vtcr = r.vtcr;
+    let pamax = r.pamax;
+    let vttbr = r.vttbr;
+    let start = level::start2(vtcr);
+    let bits = level::size_check(vtcr);
+    let n = level::levels_below(start);
+    let root = root_of(64 - vtcr.t0sz(), level::output_size(vtcr.ps()), n, vttbr);
+    let root = unless(13 < bits, root);
+    let root = unless(bits < 1, root);
+    let root = unless((start < 1) & (pamax <= 42), root);
+    unless(start < 0, root)
+}
