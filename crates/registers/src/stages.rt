@@ -4,6 +4,7 @@ ghost use Prim.Native.Nat.{_≤_, _<_};
 ghost use Rattle.descriptor.specs.Bits.{pick};
 ghost use Rattle.descriptor.specs.declared.entry.FaultKind.the-variants.{Translation};
 ghost use Rattle.walk.specs.declared.stage.Root.the-variants.{Unusable};
+ghost use Rattle.registers.specs.Tcr as TcrFields;
 ghost use Rattle.registers.specs.Roots as R;
 use crate::El1;
 use crate::El2;
@@ -89,4 +90,56 @@ pub fn root2(r: El2) -> Root
     let root = unless(bits < 1, root);
     let root = unless((start < 1) & (pamax <= 42), root);
     unless(start < 0, root)
+}
+
+// The half of stage 1 that TTBR0 translates.
+fn low_half(g: El1) -> Half
+    ensures { λ r. ⌜ r ≡ R.half1 (TcrFields.ips (g .tcr)) (TcrFields.t0sz (g .tcr)) (TcrFields.epd0 (g .tcr)) (g .ttbr0) ⌝ }
+{
+    let tcr = g.tcr;
+    half1(tcr.ips(), tcr.t0sz(), tcr.epd0(), g.ttbr0)
+}
+
+// The half that TTBR1 translates.
+fn high_half(g: El1) -> Half
+    ensures { λ r. ⌜ r ≡ R.half1 (TcrFields.ips (g .tcr)) (TcrFields.t1sz (g .tcr)) (TcrFields.epd1 (g .tcr)) (g .ttbr1) ⌝ }
+{
+    let tcr = g.tcr;
+    half1(tcr.ips(), tcr.t1sz(), tcr.epd1(), g.ttbr1)
+}
+
+pub fn stage1(r: El2, g: El1) -> walk::stage::Stage1
+    ensures { λ s. ⌜ s ≡ R.stage1 r g ⌝ }
+{
+    let hcr = r.hcr;
+    let tcr = g.tcr;
+    let sctlr = g.sctlr;
+    walk::stage::Stage1 {
+        on: accepted::stage1_on(r, g),
+        pamax: r.pamax,
+        dc: hcr.dc(),
+        tbi0: tcr.tbi0(),
+        tbi1: tcr.tbi1(),
+        low: low_half(g),
+        high: high_half(g),
+        mair: g.mair,
+        c: sctlr.c(),
+        i: sctlr.i(),
+        wxn: sctlr.wxn(),
+    }
+}
+
+pub fn stage2(r: El2) -> walk::stage::Stage2
+    ensures { λ s. ⌜ s ≡ R.stage2 r ⌝ }
+{
+    let hcr = r.hcr;
+    let vtcr = r.vtcr;
+    walk::stage::Stage2 {
+        on: accepted::stage2_on(r),
+        size: 64 - vtcr.t0sz(),
+        root: root2(r),
+        cd: hcr.cd(),
+        id: hcr.id(),
+        ptw: hcr.ptw(),
+    }
 }

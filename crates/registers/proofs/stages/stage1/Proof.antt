@@ -1,0 +1,13 @@
+-- `registers::stages::stage1` meets its contract, by those of what it calls. Assumes nothing.
+use borrow.Author.Needs.{needs}
+use Rattle.registers.specs.Roots.{stage1}
+use Rattle.registers.proofs.stages.stage1.Statement.{statement}
+use Rattle.registers.proofs.stages.stage1.Tie as tie
+
+pub stage1-spec : {M : Type 1} → statement M
+unfolding stage1
+stage1-spec =
+    tie.close
+    (tie.spec
+    (λ c κs. search needs) (λ c κs. search needs) (λ c κs. search needs) (λ c κs. search needs) (λ c κs. search needs)
+    (λ c κs. search needs) (λ c κs. search needs) (λ c κs. search needs) (λ c κs. search needs) (λ c. cc))
