@@ -1,6 +1,10 @@
 // The stages of a walk, as registers give them (01, Walk). Every register value has its stages, accepted or not.
 ghost use mathlib.Core.Path.{_≡_};
 ghost use Prim.Native.Nat.{_≤_, _<_};
+ghost use mathlib.Core.Bool.{_&&_, _||_};
+ghost use lib.Dec.{leb};
+ghost use lib.IntN.{pos};
+ghost use lib.Signed.{ltZ};
 ghost use Rattle.descriptor.specs.Bits.{pick};
 ghost use Rattle.descriptor.specs.declared.entry.FaultKind.the-variants.{Translation};
 ghost use Rattle.walk.specs.declared.stage.Root.the-variants.{Unusable};
@@ -17,48 +21,47 @@ use walk::stage::Half;
 use walk::stage::Root;
 use walk::stage::Table;
 
-// The root table at a base register, with n levels below it. No bit of the register may lie beyond the output size.
-fn root_of(input: u64, output: u64, n: u64, register: u64) -> Root
+// The root table at a base register, with n levels below it, in the 4KB granule.
+fn table_of(input: u64, output: u64, n: u64, register: u64) -> Table
     requires { ⌜ (input ≤ 64) × (n ≤ 8) ⌝ }
-    ensures { λ r. ⌜ r ≡ R.rootOf (R.fourK input output) n register ⌝ }
+    ensures { λ r. ⌜ r ≡ R.tableOf (R.fourK input output) n register ⌝ }
 {
-    if base::beyond(register, output) {
-        Root::Unusable {
-            kind: FaultKind::AddressSize,
-            level: 0,
-        }
-    } else {
-        let bits = level::less(input, 12 + 9 * n);
-        // The 4KB granule.
-        let geometry = Geometry {
-            granule: 12,
-            stride: 9,
-            input,
-            output,
-            block: 2,
-            contiguous: 34,
-        };
-        Root::Usable(Table {
-            geometry,
-            levels: n + 1,
-            bits,
-            base: base::upper(register, 3 + bits),
-        })
+    let bits = level::less(input, 12 + 9 * n);
+    let base = base::upper(register, 3 + bits);
+    let geometry = Geometry {
+        granule: 12,
+        stride: 9,
+        input,
+        output,
+        block: 2,
+        contiguous: 34,
+    };
+    Table {
+        geometry,
+        levels: n + 1,
+        bits,
+        base,
     }
 }
 
-// No root where a test holds.
-fn unless(test: bool, root: Root) -> Root
-    ensures { λ r. ⌜ r ≡ pick test (Unusable Translation 0) root ⌝ }
+// The root at a base register, no bit of which may lie beyond the output size. None where a test holds.
+fn root_unless(test: bool, input: u64, output: u64, n: u64, register: u64) -> Root
+    requires { ⌜ (input ≤ 64) × (n ≤ 8) ⌝ }
+    ensures { λ r. ⌜ r ≡ pick test (Unusable Translation 0) (R.rootOf (R.fourK input output) n register) ⌝ }
 {
     if test {
-        Root::Unusable {
+        return Root::Unusable {
             kind: FaultKind::Translation,
             level: 0,
-        }
-    } else {
-        root
+        };
     }
+    if base::beyond(register, output) {
+        return Root::Unusable {
+            kind: FaultKind::AddressSize,
+            level: 0,
+        };
+    }
+    Root::Usable(table_of(input, output, n, register))
 }
 
 // A half of stage 1, by its size field, EPD and TTBR.
@@ -68,28 +71,33 @@ fn half1(ips: u64, tnsz: u64, epd: bool, ttbr: u64) -> Half
 {
     let size = 64 - tnsz;
     let n = level::levels_below(level::start1(tnsz));
-    let root = root_of(size, level::output_size(ips), n, ttbr);
     Half {
         size,
-        root: unless(epd, root),
+        root: root_unless(epd, size, level::output_size(ips), n, ttbr),
     }
 }
 
 // Stage 2 starts at no level below 0, at level 0 only where PAMax is over 42, and with 1 to 13 index bits.
+fn startless(start: i64, bits: i64, pamax: u64) -> bool
+    ensures { λ r. ⌜ r ≡ (ltZ start (pos 0) || (ltZ start (pos 1) && leb pamax 42) || ltZ bits (pos 1) || ltZ (pos 13) bits) ⌝ }
+{
+    (start < 0) | (start < 1) & (pamax <= 42) | (bits < 1) | (13 < bits)
+}
+
 pub fn root2(r: El2) -> Root
     ensures { λ s. ⌜ s ≡ R.root2 r ⌝ }
 {
     let vtcr = r.vtcr;
-    let pamax = r.pamax;
-    let vttbr = r.vttbr;
     let start = level::start2(vtcr);
-    let bits = level::size_check(vtcr);
+    let none = startless(start, level::size_check(vtcr), r.pamax);
     let n = level::levels_below(start);
-    let root = root_of(64 - vtcr.t0sz(), level::output_size(vtcr.ps()), n, vttbr);
-    let root = unless(13 < bits, root);
-    let root = unless(bits < 1, root);
-    let root = unless((start < 1) & (pamax <= 42), root);
-    unless(start < 0, root)
+    root_unless(
+        none,
+        64 - vtcr.t0sz(),
+        level::output_size(vtcr.ps()),
+        n,
+        r.vttbr,
+    )
 }
 
 // The half of stage 1 that TTBR0 translates.

@@ -4,8 +4,4 @@ use Rattle.registers.proofs.accepted.item9.Statement.{statement}
 use Rattle.registers.proofs.accepted.item9.Tie as tie
 
 pub item9-spec : {M : Type 1} → statement M
-item9-spec =
-    tie.close
-    (tie.spec
-    (λ c κs. search needs) (λ c. search needs) (λ c κs. search needs) (λ c κs. search needs) (λ c κs. search needs) (λ c κs. search needs)
-    (λ c κs. search needs) (λ c. cc))
+item9-spec = tie.close (tie.spec (λ c κs. tt) (λ c κs. tt) (λ c κs. tt) (λ c. search needs) (λ c κs. tt) (λ c. cc))

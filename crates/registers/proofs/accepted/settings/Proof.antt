@@ -1,5 +1,4 @@
 -- `registers::accepted::settings` meets its contract, by those of what it calls. Assumes nothing.
-use borrow.Author.Needs.{needs}
 use Rattle.registers.specs.Settings.{settings, firstFailing}
 use Rattle.registers.proofs.accepted.settings.Statement.{statement}
 use Rattle.registers.proofs.accepted.settings.Tie as tie
@@ -9,6 +8,5 @@ unfolding settings firstFailing
 settings-spec =
     tie.close
     (tie.spec
-    (λ c κs. search needs) (λ c κs. search needs) (λ c κs. search needs) (λ c κs. search needs) (λ c κs. search needs)
-    (λ c κs. search needs) (λ c κs. search needs) (λ c κs. search needs) (λ c κs. search needs) (λ c κs. search needs)
-    (λ c κs. search needs) (λ c. cc))
+    (λ c κs. tt) (λ c κs. tt) (λ c κs. tt) (λ c κs. tt) (λ c κs. tt) (λ c κs. tt) (λ c κs. tt) (λ c κs. tt) (λ c κs. tt) (λ c κs. tt)
+    (λ c κs. tt) (λ c κs. tt) (λ c κs. tt) (λ c. cc))

@@ -14,10 +14,10 @@ unfolding sizeCheck
 size-check-spec =
     tie.close
     (tie.spec
-    (λ c κs. search needs)
+    (λ c κs. tt)
     (λ c. search needs)
     (λ c. search needs)
-    (λ c κs. search needs)
+    (λ c κs. tt)
     (λ c. checks 64 _ (c .start2 .result) (omega arith) (mod-lt _ (omega arith)) (c .start2 .ensures) .levels)
     (λ c. checks 64 _ (c .start2 .result) (omega arith) (mod-lt _ (omega arith)) (c .start2 .ensures) .strides)
     (λ c. checks 64 _ (c .start2 .result) (omega arith) (mod-lt _ (omega arith)) (c .start2 .ensures) .bits)

@@ -13,7 +13,7 @@ unfolding start2
 start2-spec =
     tie.close
     (tie.spec
-    (λ c κs. search needs)
+    (λ c κs. tt)
     (λ c. search needs)
     (λ c. less-fits 2 (c .sl0 .result) (omega arith) (omega arith))
     (λ c. less-is 2 (c .sl0 .result) (omega arith) (omega arith) ∙ ap (λ n. pos 2 -ℤ pos n) (c .sl0 .ensures)))

@@ -12,14 +12,10 @@ pub half1-spec : {M : Type 1} → statement M
 half1-spec =
     tie.close
     (tie.spec
-    (λ c. search needs)
-    (λ c κs. search needs)
-    (λ c κs. search needs)
-    (λ c κs. search needs)
+    (λ c. search needs) (λ c κs. tt) (λ c κs. tt) (λ c κs. tt)
     (λ c κs. (omega arith, rw (c .before .levels-below .ensures) (few-below1 _ 0 _ (omega arith) (c .before .before .start1 .ensures 0))))
-    (λ c κs. search needs)
     (λ c.
-    let a = c .before .before .before .before .before .args in
+    let a = c .before .before .before .before .args in
+    let s = c .before .before .before .start1 in
     let whole : a .tnsz % 64 ≡ a .tnsz = omega arith in
-    let s = c .before .before .before .before .start1 in
     cc (rw whole at (s .ensures (outputSize (a .ips))), start1-held _ 0 (s .result) (omega arith) (s .ensures 0))))

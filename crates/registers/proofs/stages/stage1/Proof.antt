@@ -1,5 +1,4 @@
 -- `registers::stages::stage1` meets its contract, by those of what it calls. Assumes nothing.
-use borrow.Author.Needs.{needs}
 use Rattle.registers.specs.Roots.{stage1}
 use Rattle.registers.proofs.stages.stage1.Statement.{statement}
 use Rattle.registers.proofs.stages.stage1.Tie as tie
@@ -9,5 +8,5 @@ unfolding stage1
 stage1-spec =
     tie.close
     (tie.spec
-    (λ c κs. search needs) (λ c κs. search needs) (λ c κs. search needs) (λ c κs. search needs) (λ c κs. search needs)
-    (λ c κs. search needs) (λ c κs. search needs) (λ c κs. search needs) (λ c κs. search needs) (λ c. cc))
+    (λ c κs. tt) (λ c κs. tt) (λ c κs. tt) (λ c κs. tt) (λ c κs. tt)
+    (λ c κs. tt) (λ c κs. tt) (λ c κs. tt) (λ c κs. tt) (λ c. cc))
