@@ -1,2 +1,3 @@
 pub mod Sparse
 pub mod Bytewise
+pub mod Spelled

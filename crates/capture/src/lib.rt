@@ -1,1 +1,54 @@
-// Captures: what descriptor lies at a physical address. So far its definitions, in specs/.
+// Captures: what descriptor lies at a physical address.
+ghost use mathlib.Core.Path.{_≡_};
+ghost use Prim.Native.Nat.{_+_, _*_, _≤_, _<_};
+ghost use lib.ListN.{length, getD};
+ghost use Rattle.descriptor.specs.Program.{Reader};
+ghost use Rattle.capture.specs.Capture.{memory};
+use descriptor::entry::Fetch;
+
+// A byte as a word.
+fn wide(x: u8) -> u64
+    ensures { λ r. ⌜ (r ≡ x) × (r < 256) ⌝ }
+{
+    x as u64
+}
+
+// The eight bytes from a place on as a word, the least first. A sum and no loop, so that it compiles to one load.
+fn word(bytes: &[u8], i: usize) -> u64
+    requires { ⌜ i + 8 ≤ length (now bytes) ⌝ }
+    ensures { λ r. ⌜ (let byte = getD (now (bytes .entry)) in
+        r ≡ byte i 0 + byte (i + 1) 0 * 0x100 + byte (i + 2) 0 * 0x1_0000 + byte (i + 3) 0 * 0x100_0000
+        + byte (i + 4) 0 * 0x1_0000_0000 + byte (i + 5) 0 * 0x100_0000_0000 + byte (i + 6) 0 * 0x1_0000_0000_0000
+        + byte (i + 7) 0 * 0x100_0000_0000_0000) ⌝ }
+{
+    wide(bytes[i])
+        + wide(bytes[i + 1]) * 0x100
+        + wide(bytes[i + 2]) * 0x1_0000
+        + wide(bytes[i + 3]) * 0x100_0000
+        + wide(bytes[i + 4]) * 0x1_0000_0000
+        + wide(bytes[i + 5]) * 0x100_0000_0000
+        + wide(bytes[i + 6]) * 0x1_0000_0000_0000
+        + wide(bytes[i + 7]) * 0x100_0000_0000_0000
+}
+
+// The descriptor at a physical address of the bytes that stand at base. Differences and no sums: a sum of base or address may wrap.
+pub fn fetch(bytes: &[u8], base: u64, address: u64) -> Fetch
+    ensures { λ r. ⌜ ((reader : Reader) →
+        r ≡ memory base (length (now (bytes .entry))) (now (bytes .entry)) (record { reader = reader; address = address })) ⌝ }
+{
+    if base <= address {
+        let at = address - base;
+        let n = bytes.len() as u64;
+        if 8 <= n {
+            if at <= n - 8 {
+                Fetch::Word(word(bytes, at as usize))
+            } else {
+                Fetch::Absent
+            }
+        } else {
+            Fetch::Absent
+        }
+    } else {
+        Fetch::Absent
+    }
+}

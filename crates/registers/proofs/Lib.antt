@@ -1,2 +1,4 @@
 pub mod Settings
 pub mod Roots
+pub mod Signed
+pub mod Shifts

@@ -4,8 +4,12 @@ use sctlr::Sctlr;
 use tcr::Tcr;
 use vtcr::Vtcr;
 
+pub mod accepted;
+mod base;
 pub mod hcr;
+pub mod level;
 pub mod sctlr;
+pub mod stages;
 pub mod tcr;
 pub mod vtcr;
 
