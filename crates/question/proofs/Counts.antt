@@ -64,7 +64,7 @@ root2-levels : (r : El2) (l : ℕ) → start2 (Vtcr.sl0 (r .vtcr)) ≡ pos l →
 root2-levels r l e =
     let below : l ≤ 3 = omega (arith, start2-most r l e) in
     let h = levels-from (start2 (Vtcr.sl0 (r .vtcr))) l below e in
-    (by-root2 (HasLevels (n2 r)) (λ k l′. tt) r (λ l′ e′. h .0), h .1)
+    (by-root2 (HasLevels (n2 r)) (λ k l′. tt) r (λ l′ e′ _. h .0), h .1)
 
 few-levels : (root : Root) → Sane root → levelsOf root ≤ 4
 unfolding levelsOf
@@ -153,10 +153,10 @@ module _ (base : ℕ) (bytes : List ℕ) (r : El2) (g : El1) (a : Access) (log :
   abbrev m : Request → Fetch
   m = memory base (length bytes) bytes
 
-  abbrev p : Reading Translation
+  abbrev pub p : Reading Translation
   p = question (length log) base (length bytes) r g a
 
-  abbrev why : Option Refusal
+  abbrev pub why : Option Refusal
   why = refusal (length log) base (length bytes) r g a
 
   -- without a refusal the settings are accepted, and the question is the access
@@ -166,7 +166,7 @@ module _ (base : ℕ) (bytes : List ℕ) (r : El2) (g : El1) (a : Access) (log :
       third : All (λ t. t .holds ≡ false) (grounds (length log) base (length bytes) r g a) → settings r g ≡ 0
       third (cons h (cons i (cons j l))) = eqb-true _ _ (not-false _ j)
 
-  is-access : why ≡ none → p ≡ access (stage1 r g) (stage2 r) a
+  pub is-access : why ≡ none → p ≡ access (stage1 r g) (stage2 r) a
   unfolding question
   is-access e = refuse-none _ _ _ e
 

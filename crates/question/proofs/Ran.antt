@@ -6,7 +6,9 @@ use Prim.Native.Nat.{ℕ, suc, _+_}
 use native.Mathlib.Numerals.{add-one}
 use native.Mathlib.Omega.{arith}
 use lib.ListN.{length, set, length-append, length-map}
-use lib.Seq.{sets}
+use lib.Seq.{sets, length-sets}
+use mathlib.Core.Bool.{Bool, true, false}
+use Rattle.descriptor.specs.Bits.{pick}
 use Rattle.descriptor.specs.Program.{Request, Outcome, reached, stopped, Program, done, stop, note, ask, counted, bind, run, reads}
 use Rattle.descriptor.specs.declared.entry.Fetch.{Fetch}
 use Rattle.descriptor.specs.declared.entry.Fetch.the-variants.{Absent, Word}
@@ -66,3 +68,16 @@ module _ (m : Request → Fetch) where
         counted = rw (all, append-nil) (r .counted);
         logged = rw (all, append-nil) (r .logged);
       }
+
+  -- a choice whose test is known
+  pub ran-true : {A : Type 0} {p : Reading A} (q : Reading A) {log log′ : List ℕ} {count end : ℕ} {o : Outcome Stop A} {b : Bool} → b ≡ true → Ran m p log count o end log′ → Ran m (pick b p q) log count o end log′
+  unfolding pick
+  ran-true q e r = rw e r
+
+  pub ran-false : {A : Type 0} (p : Reading A) {q : Reading A} {log log′ : List ℕ} {count end : ℕ} {o : Outcome Stop A} {b : Bool} → b ≡ false → Ran m q log count o end log′ → Ran m (pick b p q) log count o end log′
+  unfolding pick
+  ran-false p e r = rw e r
+
+-- a log keeps its length
+pub ran-length : {A : Type 0} {m : Request → Fetch} {p : Reading A} {log log′ : List ℕ} {count end : ℕ} {o : Outcome Stop A} → Ran m p log count o end log′ → length log′ ≡ length log
+ran-length r = rw (r .logged) (simp length-sets)

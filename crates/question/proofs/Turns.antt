@@ -1,26 +1,58 @@
 -- One level of a walk, as a call goes through it.
 -- Assumes nothing.
-use mathlib.Core.Path.{_≡_, refl, sym, subst}
+use mathlib.Core.Path.{_≡_, refl, sym, ap, _∙_}
 use mathlib.Core.List.{List}
-use Prim.Native.Nat.{ℕ, zero, suc, _+_, _-_, _*_, _/_, _%_, _^_, _<_}
+use Prim.Native.Nat.{ℕ, zero, suc, _+_, _-_, _*_, _/_, _%_, _^_, _≤_, _<_}
+use native.Mathlib.Nat.{div-mul-le-self, mod-lt, lt-of-lt-of-le}
+use lib.Pow.{pow-pos, pow-mono}
 use native.Mathlib.Omega.{arith}
-use lib.ListN.{set}
-use Rattle.descriptor.specs.Bits.{field}
-use Rattle.descriptor.specs.Program.{Request, Outcome, reached, stopped, done, ask, bind}
-use Rattle.descriptor.specs.Entry.{shift, decode}
+use lib.ListN.{length, set, length-set}
+use mathlib.Core.Bool.{Bool, true, false, _&&_}
+use lib.Dec.{ltb, eqb}
+use Rattle.descriptor.specs.Bits.{pick, bit, field, upper, beyond}
+use Rattle.descriptor.specs.Program.{Request, Outcome, reached, stopped, done, stop, note, ask, bind}
+use Rattle.descriptor.specs.Entry.{shift, shape, contiguous, decodeAs, decode}
 use Rattle.descriptor.specs.declared.entry.Fetch.{Fetch}
 use Rattle.descriptor.specs.declared.entry.Fetch.the-variants.{Absent, Word}
 use Rattle.descriptor.specs.declared.entry.Geometry.{Geometry}
-use Rattle.descriptor.specs.declared.entry.FaultKind.{FaultKind}
+use Rattle.descriptor.specs.declared.entry.Shape.{Shape}
+use Rattle.descriptor.specs.declared.entry.Shape.the-variants as Shape
+use Rattle.descriptor.specs.declared.entry.FaultKind.the-variants.{Translation, AddressSize, AccessFlag}
+use Rattle.descriptor.proofs.Tests.{by-pick}
 use Rattle.descriptor.specs.declared.entry.Entry.{Entry}
 use Rattle.descriptor.specs.declared.entry.Entry.the-variants as E
 use Rattle.descriptor.specs.declared.entry.Inherited.{Inherited}
 use Rattle.walk.specs.Walk.{Reading, readerOf, fault, absent, unsettled, entryAddress, inheritAt, fetched, follow, walk}
 use Rattle.walk.specs.declared.answer.Stage.{Stage}
+use Rattle.walk.specs.declared.answer.Stage.the-variants.{Two}
 use Rattle.walk.specs.declared.answer.Stop.{Stop}
 use Rattle.walk.specs.declared.stage.Leaf.{Leaf}
-use Rattle.question.specs.Ran.{Ran}
+use Rattle.walk.specs.declared.stage.Walked.{Walked}
+use Rattle.walk.specs.declared.stage.Walked.the-variants.{Ended, Stopped}
+use Rattle.question.specs.Ran.{Ran, walked}
+use Rattle.question.specs.Entered.{turnAt, Entered, gone, found}
+use Rattle.question.specs.declared.table.Turn.{Turn}
+use Rattle.question.specs.declared.table.Turn.the-variants.{Down, Over}
 use Rattle.question.proofs.Ran.{ran-done, ran-stop, ran-note, ran-absent, ran-word, ran-then, ran-stopped}
+
+-- what is left of a walk after a turn
+unfoldable resume : (ℕ → Inherited → Reading Leaf) → Turn → Reading Leaf
+resume deeper (Down t i) = deeper t i
+resume deeper (Over (Ended l)) = note (l .level) (done l)
+resume deeper (Over (Stopped e)) = stop e
+
+follow-turn : (g : Geometry) (s : Stage) (n x : ℕ) (h : Inherited) (deeper : ℕ → Inherited → Reading Leaf) (e : Entry) → follow g s n x h deeper e ≡ resume deeper (turnAt g s n x h e)
+unfolding follow resume turnAt
+follow-turn g s n x h deeper (E.Next t) = refl
+follow-turn g s n x h deeper E.Final = refl
+follow-turn g s n x h deeper (E.Fault kind) = refl
+follow-turn g s n x h deeper E.Unsettled = refl
+
+-- nothing is left
+ran-over : (m : Request → Fetch) (deeper : ℕ → Inherited → Reading Leaf) (w : Walked) (log : List ℕ) (count : ℕ) → Ran m (resume deeper (Over w)) log count (walked w) count log
+unfolding resume walked
+ran-over m deeper (Ended l) log count = ran-note m (ran-done m l log count)
+ran-over m deeper (Stopped e) log count = ran-stop m e log count
 
 module _ (m : Request → Fetch) (place : ℕ → Reading ℕ) (g : Geometry) (s : Stage) (input : ℕ) where
   -- a read by this stage
@@ -33,12 +65,12 @@ module _ (m : Request → Fetch) (place : ℕ → Reading ℕ) (g : Geometry) (s
       ask (req at) (fetched (absent at s (3 - n)) (λ x. follow g s n x h (λ t i. walk place g s input n (g .stride) t i) (decode g n x)))
 
   -- the entry is placed, and then read
-  pub turn : (k j table : ℕ) (h : Inherited) {at : ℕ} {log log₁ log₂ : List ℕ} {count end end₂ : ℕ} {o : Outcome Stop Leaf} → 0 < k →
+  pub turn-in : (k j table : ℕ) (h : Inherited) {at : ℕ} {log log₁ log₂ : List ℕ} {count end end₂ : ℕ} {o : Outcome Stop Leaf} → 0 < k →
       Ran m (place (entryAddress g (k - 1) j table input)) log count (reached at) end log₁ → Ran m (here (k - 1) at h) log₁ end o end₂ log₂ →
       Ran m (walk place g s input k j table h) log count o end₂ log₂
   unfolding walk
-  turn zero j table h less p q = absurd (omega arith)
-  turn (suc n) j table h less p q =
+  turn-in zero j table h less p q = absurd (omega arith)
+  turn-in (suc n) j table h less p q =
       let e : suc n - 1 ≡ n = omega arith in
       ran-then m _ (rw e at p) (rw e at q)
 
@@ -50,24 +82,122 @@ module _ (m : Request → Fetch) (place : ℕ → Reading ℕ) (g : Geometry) (s
       let e : suc n - 1 ≡ n = omega arith in
       ran-stopped m _ (rw e at p)
 
-  pub turn-absent : (n : ℕ) (h : Inherited) {at : ℕ} {log : List ℕ} {count : ℕ} → m (req at) ≡ Absent → Ran m (here n at h) log count (stopped (absent at s (3 - n))) count log
-  unfolding fetched
-  turn-absent n h e = ran-absent m e (ran-stop m _ _ _)
+  -- an entry that was entered, and what is left
+  entered : (n : ℕ) (h : Inherited) {at k end end₂ : ℕ} {turn : Turn} {log log₁ log₂ : List ℕ} {o : Outcome Stop Leaf} → Entered m g s n at h log k turn end log₁ →
+      Ran m (resume (λ t i. walk place g s input n (g .stride) t i) turn) log₁ end o end₂ log₂ → Ran m (here n at h) log k o end₂ log₂
+  unfolding fetched resume
+  entered n h (gone q t e l) r = ran-absent m q (rw (t, e, l) at r)
+  entered n h (found x q t e l) r = ran-word m q (rw follow-turn (rw (t, e, l) at r))
 
-  module _ (n : ℕ) (h : Inherited) {at x : ℕ} {log : List ℕ} {count : ℕ} (e : m (req at) ≡ Word x) where
-    pub turn-next : {t : ℕ} {log₂ : List ℕ} {end₂ : ℕ} {o : Outcome Stop Leaf} → decode g n x ≡ E.Next t →
-        Ran m (walk place g s input n (g .stride) t (inheritAt s h x)) (set log count at) (count + 1) o end₂ log₂ → Ran m (here n at h) log count o end₂ log₂
-    unfolding fetched follow
-    turn-next d r = ran-word m e (rw d r)
+  pub entered-over : (n : ℕ) (h : Inherited) {at k end : ℕ} {turn : Turn} {log log₁ : List ℕ} (w : Walked) → Entered m g s n at h log k turn end log₁ → turn ≡ Over w →
+      Ran m (here n at h) log k (walked w) end log₁
+  entered-over n h w e t = entered n h e (rw t (ran-over m _ w _ _))
 
-    pub turn-final : decode g n x ≡ E.Final → Ran m (here n at h) log count (reached (record { word = x; shift = shift g n; level = 3 - n; inherited = h })) (count + 1) (set log count at)
-    unfolding fetched follow
-    turn-final d = ran-word m e (rw d (ran-note m (ran-done m _ _ _)))
+  pub entered-down : (n : ℕ) (h : Inherited) {at k end end₂ t : ℕ} {i : Inherited} {turn : Turn} {log log₁ log₂ : List ℕ} {o : Outcome Stop Leaf} → Entered m g s n at h log k turn end log₁ → turn ≡ Down t i →
+      Ran m (walk place g s input n (g .stride) t i) log₁ end o end₂ log₂ → Ran m (here n at h) log k o end₂ log₂
+  unfolding resume
+  entered-down n h e t r = entered n h e (rw t r)
 
-    pub turn-fault : {kind : FaultKind} → decode g n x ≡ E.Fault kind → Ran m (here n at h) log count (stopped (fault kind s (3 - n))) (count + 1) (set log count at)
-    unfolding fetched follow
-    turn-fault d = ran-word m e (rw d (ran-stop m _ _ _))
+-- ---- what else an entered entry says
 
-    pub turn-unsettled : decode g n x ≡ E.Unsettled → Ran m (here n at h) log count (stopped (unsettled s (3 - n))) (count + 1) (set log count at)
-    unfolding fetched follow
-    turn-unsettled d = ran-word m e (rw d (ran-stop m _ _ _))
+next-table : (g : Geometry) (n x t : ℕ) (shape : Shape) → decodeAs g n x shape ≡ E.Next t → t ≡ upper x (g .granule)
+unfolding decodeAs pick
+next-table g n x t Shape.Void e = absurd (let z : _≡_ {A = ℕ} 0 1 = cc in omega arith)
+next-table g n x t Shape.Table e = by-pick (λ d. d ≡ E.Next t → t ≡ upper x (g .granule)) (beyond x (g .output)) _ _ (λ _ q. absurd (let z : _≡_ {A = ℕ} 0 1 = cc in omega arith)) (λ _ q. cc) e
+next-table g n x t Shape.Leaf e = absurd (never (contiguous g n x) (beyond x (g .output)) (bit x 10) e)
+  where
+    never : (a b c : Bool) → pick a E.Unsettled (pick b (E.Fault AddressSize) (pick c E.Final (E.Fault AccessFlag))) ≡ E.Next t → ⊥
+    never true b c q = let z : _≡_ {A = ℕ} 0 1 = cc in omega arith
+    never false true c q = let z : _≡_ {A = ℕ} 0 1 = cc in omega arith
+    never false false true q = let z : _≡_ {A = ℕ} 0 1 = cc in omega arith
+    never false false false q = let z : _≡_ {A = ℕ} 0 1 = cc in omega arith
+
+pub upper-small : (x low : ℕ) → upper x low < 2 ^ 48
+upper-small x low =
+    let fits : x % 2 ^ 48 / 2 ^ low * 2 ^ low ≤ x % 2 ^ 48 = div-mul-le-self (x % 2 ^ 48) (2 ^ low) in
+    omega arith
+
+-- a turn down is a table entry's
+turn-down : (g : Geometry) (s : Stage) (n x : ℕ) (h : Inherited) (t : ℕ) (i : Inherited) (e : Entry) → turnAt g s n x h e ≡ Down t i → (e ≡ E.Next t) × (i ≡ inheritAt s h x)
+unfolding turnAt
+turn-down g s n x h t i (E.Next table) q = (ap E.Next (let z : table ≡ t = cc in z), cc)
+turn-down g s n x h t i E.Final q = absurd (let z : _≡_ {A = ℕ} 0 1 = cc in omega arith)
+turn-down g s n x h t i (E.Fault kind) q = absurd (let z : _≡_ {A = ℕ} 0 1 = cc in omega arith)
+turn-down g s n x h t i E.Unsettled q = absurd (let z : _≡_ {A = ℕ} 0 1 = cc in omega arith)
+
+module _ {m : Request → Fetch} {g : Geometry} {n at : ℕ} {h : Inherited} {log log₁ : List ℕ} {k end : ℕ} {turn : Turn} where
+  pub down-small : {s : Stage} {t : ℕ} {i : Inherited} → Entered m g s n at h log k turn end log₁ → turn ≡ Down t i → t < 2 ^ 48
+  down-small (gone q e f l) d = absurd (let z : _≡_ {A = ℕ} 0 1 = cc in omega arith)
+  down-small {s} {t} {i} (found x q e f l) d =
+      let z : t ≡ upper x (g .granule) = next-table g n x t (shape g n x) (turn-down g s n x h t i (decode g n x) (sym e ∙ d) .0) in
+      omega (arith, upper-small x (g .granule))
+
+  -- stage 2 imposes nothing
+  pub down-two : {ipa : ℕ} {w : Bool} {t : ℕ} {i : Inherited} → Entered m g (Two ipa w) n at h log k turn end log₁ → turn ≡ Down t i → i ≡ h
+  down-two (gone q e f l) d = absurd (let z : _≡_ {A = ℕ} 0 1 = cc in omega arith)
+  down-two {ipa} {w} {t} {i} (found x q e f l) d = turn-down g (Two ipa w) n x h t i (decode g n x) (sym e ∙ d) .1
+
+  pub entered-end : {s : Stage} → Entered m g s n at h log k turn end log₁ → end ≤ k + 1
+  entered-end (gone q e f l) = omega arith
+  entered-end (found x q e f l) = omega arith
+
+  pub entered-length : {s : Stage} → Entered m g s n at h log k turn end log₁ → length log₁ ≡ length log
+  entered-length (gone q e f l) = ap length l
+  entered-length (found x q e f l) = ap length l ∙ length-set log k at
+
+-- ---- a loop over the levels
+
+-- n levels from a table of 2 ^ j entries, of which some are left: whatever finishes the walk from here finishes the whole
+pub record Walking (m : Request → Fetch) (place : ℕ → Reading ℕ) (g : Geometry) (s : Stage) (input : ℕ)
+    (log₀ : List ℕ) (count n j table₀ : ℕ) (h₀ : Inherited) (log : List ℕ) (k left bits table : ℕ) (h : Inherited) : Type 0 where
+  pub few : left ≤ 4
+  pub narrow : bits ≤ 16
+  pub low : table < 2 ^ 48
+  pub granule : g .granule ≤ 16
+  pub stride : g .stride ≤ 13
+  pub same : length log ≡ length log₀
+  pub rest : {o : Outcome Stop Leaf} {end : ℕ} {l : List ℕ} → Ran m (walk place g s input left bits table h) log k o end l → Ran m (walk place g s input n j table₀ h₀) log₀ count o end l
+
+-- an index in 16 bits
+pub field-small : (x low n : ℕ) → n ≤ 16 → field x low n < 2 ^ 16
+field-small x low n h =
+    let less : field x low n < 2 ^ n = mod-lt _ (pow-pos n) in
+    lt-of-lt-of-le less (pow-mono h)
+
+module _ {m : Request → Fetch} {place : ℕ → Reading ℕ} {g : Geometry} {s : Stage} {input : ℕ}
+    {log₀ : List ℕ} {count n j table₀ : ℕ} {h₀ : Inherited} {log : List ℕ} {k left bits table : ℕ} {h : Inherited}
+    {at k₁ end : ℕ} {log₁ log₂ : List ℕ} {turn : Turn}
+    (w : Walking m place g s input log₀ count n j table₀ h₀ log k left bits table h) (more : 0 < left)
+    (placed : Ran m (place (entryAddress g (left - 1) bits table input)) log k (reached at) k₁ log₁) (e : Entered m g s (left - 1) at h log₁ k₁ turn end log₂) where
+  -- the walk is over
+  pub walking-over : (v : Walked) → turn ≡ Over v → Ran m (walk place g s input n j table₀ h₀) log₀ count (walked v) end log₂
+  walking-over v t = w .rest (turn-in m place g s input left bits table h more placed (entered-over m place g s input (left - 1) h v e t))
+
+  -- or one level down
+  pub walking-down : (t : ℕ) (i : Inherited) → turn ≡ Down t i → length log₁ ≡ length log → Walking m place g s input log₀ count n j table₀ h₀ log₂ end (left - 1) (g .stride) t i
+  walking-down t i d l =
+      record {
+        few = omega (arith, w .few);
+        narrow = omega (arith, w .stride);
+        low = down-small e d;
+        granule = w .granule;
+        stride = w .stride;
+        same = entered-length e ∙ l ∙ w .same;
+        rest = λ r. w .rest (turn-in m place g s input left bits table h more placed (entered-down m place g s input (left - 1) h e d r));
+      }
+
+-- the walk is over where no level is left
+pub walking-done : {m : Request → Fetch} {place : ℕ → Reading ℕ} {g : Geometry} {s : Stage} {input : ℕ}
+    {log₀ : List ℕ} {count n j table₀ : ℕ} {h₀ : Inherited} {log : List ℕ} {k left bits table : ℕ} {h : Inherited} →
+    Walking m place g s input log₀ count n j table₀ h₀ log k left bits table h → left ≤ 0 →
+    Ran m (walk place g s input n j table₀ h₀) log₀ count (stopped (fault Translation s 3)) k log
+unfolding walk
+walking-done {m} {left = zero} w none = w .rest (ran-stop m _ _ _)
+walking-done {left = suc l} w none = absurd (omega arith)
+
+-- the walk stops where its next entry cannot be placed
+pub walking-stopped : {m : Request → Fetch} {place : ℕ → Reading ℕ} {g : Geometry} {s : Stage} {input : ℕ}
+    {log₀ : List ℕ} {count n j table₀ : ℕ} {h₀ : Inherited} {log : List ℕ} {k left bits table : ℕ} {h : Inherited} {e : Stop} {end : ℕ} {log₁ : List ℕ} →
+    Walking m place g s input log₀ count n j table₀ h₀ log k left bits table h → 0 < left →
+    Ran m (place (entryAddress g (left - 1) bits table input)) log k (stopped e) end log₁ → Ran m (walk place g s input n j table₀ h₀) log₀ count (stopped e) end log₁
+walking-stopped {m} {place} {g} {s} {input} {left = left} {bits} {table} {h} w more p = w .rest (turn-stopped m place g s input left bits table h more p)

@@ -3,3 +3,4 @@ pub mod Question
 pub mod Counts
 pub mod Framing
 pub mod Ran
+pub mod Entered

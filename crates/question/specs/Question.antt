@@ -1,5 +1,6 @@
 -- The whole question: its answer, its log, and the level at which each walk ended.
 -- Assumes nothing.
+use mathlib.Core.Path.{_≡_}
 use mathlib.Core.Bool.{Bool, not}
 use mathlib.Core.List.{List, [], _∷_, map}
 use mathlib.Core.Option.{Option, some, none}
@@ -69,3 +70,8 @@ told m log p =
 unfoldable pub ask : (base : ℕ) (bytes : List ℕ) → El2 → El1 → Access → (log : List ℕ) → Told
 ask base bytes r g a log =
     told (memory base (length bytes) bytes) log (question (length log) base (length bytes) r g a)
+
+-- a call that gave what a question gives: its answer, and the log's words afterwards
+pub record Tells (t : Told) (answer : Answer) (log : List ℕ) : Type 0 where
+  pub answered : answer ≡ t .answer
+  pub logged : log ≡ t .log

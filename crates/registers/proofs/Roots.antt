@@ -1,13 +1,14 @@
 -- Roots that registers give: how many levels they have, and that they are aligned.
 -- Assumes nothing.
 use mathlib.Core.Path.{_≡_, refl, ap, sym, subst}
-use mathlib.Core.Bool.{Bool, true, false, _&&_, true≢false}
+use mathlib.Core.Bool.{Bool, true, false, cond, _&&_, true≢false}
 use Prim.Native.Nat.{ℕ, zero, suc, _+_, _-_, _*_, _/_, _%_, _^_, _≤_, _<_, suc-le-suc}
 use native.Mathlib.Nat.{mod-lt}
 use native.Mathlib.Omega.{arith}
-use lib.Dec.{leb, eqb}
-use lib.IntN.{ℤ, pos, negsuc, _-ℤ_}
+use lib.Dec.{leb, ltb, eqb}
+use lib.IntN.{ℤ, pos, negsuc, subℕ, _-ℤ_}
 use lib.Signed.{ltZ}
+use borrow.Author.Tests.{ltb-true, ltb-false}
 use Rattle.descriptor.specs.Bits.{pick, beyond}
 use Rattle.descriptor.specs.declared.entry.Geometry.{Geometry}
 use Rattle.descriptor.specs.declared.entry.FaultKind.{FaultKind}
@@ -20,7 +21,7 @@ use Rattle.walk.specs.declared.stage.Stage1.{Stage1}
 use Rattle.walk.proofs.Accesses.{Aligned, upper-aligned}
 use Rattle.registers.specs.Tcr
 use Rattle.registers.specs.Vtcr
-use Rattle.registers.specs.Roots.{fourK, inputSize, outputSize, start1, start2, levelsBelow, tableOf, rootOf, half1, root2, stage1}
+use Rattle.registers.specs.Roots.{fourK, inputSize, outputSize, start1, start2, sizeCheck, levelsBelow, tableOf, rootOf, half1, root2, stage1}
 use Rattle.registers.specs.declared.El1.{El1}
 use Rattle.registers.specs.declared.El2.{El2}
 use Rattle.registers.proofs.Settings.{Sized}
@@ -36,14 +37,14 @@ four-less (suc (suc (suc zero))) h = refl
 four-less (suc (suc (suc (suc zero)))) h = refl
 four-less (suc (suc (suc (suc (suc k))))) h = absurd (omega arith)
 
--- an accepted input size starts at level 0 to 2
-pub start1-is : (s output : ℕ) → Sized s → (l : ℕ) × (l ≤ 2) × (start1 (fourK s output) ≡ pos l)
+-- an accepted input size starts at level 0 to 2, and has at most nine index bits there
+pub start1-is : (s output : ℕ) → Sized s → (l : ℕ) × (l ≤ 2) × (start1 (fourK s output) ≡ pos l) × (s ≤ 21 + 9 * (3 - l))
 unfolding start1
 start1-is s output h =
     let k = (s - 12 + 8) / 9 in
     let least : 2 ≤ k = omega (arith, h .least) in
     let most : k ≤ 4 = omega (arith, h .most) in
-    (4 - k, omega arith, four-less k most)
+    (4 - k, omega arith, four-less k most, omega arith)
 
 -- SL0 has two bits: stage 2 starts at level 2, 1, 0 or -1
 start2-below : (n : ℕ) → n < 4 → (l : ℕ) → start2 n ≡ pos l → l ≤ 2
@@ -60,6 +61,21 @@ start2-most r = start2-below _ (mod-lt _ (omega arith))
 not-negative : (z : ℤ) → ltZ z (pos 0) ≡ false → (l : ℕ) × (z ≡ pos l)
 not-negative (pos l) e = (l, refl)
 not-negative (negsuc l) e = absurd (true≢false e)
+
+-- at most 13 index bits
+few-bits : (s c : ℕ) → ltZ (pos 13) (subℕ s c) ≡ false → s - c ≤ 13
+few-bits s c = by-cond (ltb s c) refl
+  where
+    by-cond : (b : Bool) → ltb s c ≡ b → ltZ (pos 13) (cond b (negsuc (c - suc s)) (pos (s - c))) ≡ false → s - c ≤ 13
+    by-cond true e h = omega (arith, ltb-true s c e)
+    by-cond false e h = ltb-false 13 (s - c) h
+
+pub start2-bits : (s output l : ℕ) → l ≤ 2 → ltZ (pos 13) (sizeCheck (fourK s output) (pos l)) ≡ false → s - (12 + 9 * (3 - l)) ≤ 13
+unfolding sizeCheck
+start2-bits s output zero h = few-bits s 39
+start2-bits s output (suc zero) h = few-bits s 30
+start2-bits s output (suc (suc zero)) h = few-bits s 21
+start2-bits s output (suc (suc (suc l))) h = absurd (omega arith)
 
 -- ---- roots, by what holds of them
 
@@ -79,17 +95,17 @@ module _ (Q : Root → Type 0) (unusable : (k : FaultKind) (l : ℕ) → Q (Unus
   by-root1At s a high low =
       by-pick Q (inHalf s a) (half s a .root) (Unusable _ _) (λ _. by-pick (λ (h : Half). Q (h .root)) (isHigh s a) (s .high) (s .low) high low) (λ _. unusable _ _)
 
-  -- stage 2's root, from a start level that is not negative
+  -- stage 2's root, from a start level that is not negative, with few index bits
   pub by-root2 : (r : El2) →
       (let g = fourK (inputSize (Vtcr.t0sz (r .vtcr))) (outputSize (Vtcr.ps (r .vtcr))) in let start = start2 (Vtcr.sl0 (r .vtcr)) in
-      (l : ℕ) → start ≡ pos l → Q (Usable (tableOf g (levelsBelow start) (r .vttbr)))) → Q (root2 r)
+      (l : ℕ) → start ≡ pos l → ltZ (pos 13) (sizeCheck g start) ≡ false → Q (Usable (tableOf g (levelsBelow start) (r .vttbr)))) → Q (root2 r)
   unfolding root2
   by-root2 r h =
       by-pick Q _ (Unusable _ _) _ (λ _. unusable _ _)
       (λ e. by-pick Q _ (Unusable _ _) _ (λ _. unusable _ _)
       (λ _. by-pick Q _ (Unusable _ _) _ (λ _. unusable _ _)
       (λ _. by-pick Q _ (Unusable _ _) _ (λ _. unusable _ _)
-      (λ _. by-rootOf _ _ _ (let p = not-negative (start2 (Vtcr.sl0 (r .vtcr))) e in h (p .0) (p .1))))))
+      (λ small. by-rootOf _ _ _ (let p = not-negative (start2 (Vtcr.sl0 (r .vtcr))) e in h (p .0) (p .1) small)))))
 
 -- ---- stage 2's geometry
 
@@ -103,7 +119,7 @@ unfolding levelsBelow
 few-below z l e = subst (λ y. levelsBelow y ≤ 3) (sym e) (omega arith)
 
 pub root2-sane : (r : El2) → Sane (root2 r)
-root2-sane r = by-root2 Sane (λ k l. tt) r (λ l e. (omega arith, suc-le-suc (few-below _ l e)))
+root2-sane r = by-root2 Sane (λ k l. tt) r (λ l e _. (omega arith, suc-le-suc (few-below _ l e)))
 
 -- ---- alignment
 

@@ -2,7 +2,7 @@
 -- Assumes nothing.
 use mathlib.Core.Bool.{Bool, true, false, not, _&&_, _||_}
 use Prim.Native.Nat.{ℕ, suc, _+_, _-_, _/_, _%_, _^_}
-use lib.Dec.{ltb, eqb}
+use lib.Dec.{eqb}
 use Rattle.descriptor.specs.Bits.{pick, bit, beyond}
 use Rattle.descriptor.specs.Program.{done, stop, bind}
 use Rattle.descriptor.specs.Entry.{outputAddress}
@@ -54,9 +54,13 @@ root2At s ipa = pick (beyond ipa (s .size)) (Unusable F.Translation 0) (s .root)
 abbrev pub uncached2 : Stage2 → Access → (onWalk : Bool) → Bool
 uncached2 s a onWalk = pick (isFetch a && not onWalk) (s .id) (s .cd)
 
--- permission, then a fetch from Device memory, then PTW: all permission faults
+-- Device memory is no place to fetch from, nor with PTW to walk in: both are permission faults
+abbrev pub refused2 : Stage2 → Access → (onWalk device : Bool) → Bool
+refused2 s a onWalk device = device && (isFetch a || (onWalk && s .ptw))
+
+-- permission, then a fetch from Device memory, then PTW
 abbrev pub denied2 : Stage2 → Access → (onWalk device : Bool) → (x : ℕ) → Bool
-denied2 s a onWalk device x = not (stage2Permits onWalk a x) || (device && isFetch a) || (onWalk && s .ptw && device)
+denied2 s a onWalk device x = not (stage2Permits onWalk a x) || refused2 s a onWalk device
 
 -- the checks after stage 2's walk; alignment is never tested on-walk
 unfoldable pub check2 : Stage2 → Access → (onWalk : Bool) (ipa : ℕ) → Leaf → Checked
@@ -88,12 +92,12 @@ isHigh s a = bit a (top s a)
 abbrev pub half : Stage1 → ℕ → Half
 half s a = pick (isHigh s a) (s .high) (s .low)
 
--- bits Top down to the half's size are all 0 in the low half, all 1 in the high one
+-- bits Top down to the half's size are all 0 in the low half, and in the high one all 1, as in an address of ones
 abbrev pub inHalf : Stage1 → ℕ → Bool
 inHalf s a =
     let t = suc (top s a) in
     let n = half s a .size in
-    eqb (a % 2 ^ t / 2 ^ n) (pick (isHigh s a) (2 ^ (t - n) - 1) 0)
+    eqb (a % 2 ^ t / 2 ^ n) (pick (isHigh s a) ((2 ^ t - 1) / 2 ^ n) 0)
 
 -- the root for an address
 abbrev pub root1At : Stage1 → ℕ → Root
@@ -121,7 +125,7 @@ check1 s a l =
 unfoldable pub flat : Stage1 → Access → Checked
 flat s a =
     let attrs = flatAttributes (s .dc) (isFetch a) (s .i) in
-    unless (ltb 0 (a .address % 2 ^ suc (top s (a .address)) / 2 ^ (s .pamax))) (fault F.AddressSize One 0)
+    unless (not (eqb (a .address % 2 ^ suc (top s (a .address)) / 2 ^ (s .pamax)) 0)) (fault F.AddressSize One 0)
     (unless (isDevice (attrs .memory) && unaligned a) (Misaligned One)
     (Passed (record { address = a .address % 2 ^ 48; attributes = attrs; level = 0 })))
 

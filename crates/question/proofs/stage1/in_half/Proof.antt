@@ -1,0 +1,31 @@
+-- `in_half` meets its contract.
+-- Assumes nothing.
+use borrow.Author.Needs.{needs}
+use mathlib.Core.Path.{_≡_, refl, sym, _∙_}
+use mathlib.Core.Bool.{Bool, true, false}
+use Prim.Native.Nat.{ℕ}
+use native.Mathlib.Nat.{div-eq-of-lt, lt-of-lt-of-le}
+use lib.Dec.{eqb}
+use lib.Pow.{pow-mono}
+use borrow.Author.Tests.{eq-eqb}
+use Rattle.descriptor.specs.Bits.{pick}
+use Rattle.question.proofs.stage1.in_half.Statement.{statement}
+use Rattle.question.proofs.stage1.in_half.Tie as tie
+
+-- past the word there are no bits
+both-none : (high : Bool) {x y : ℕ} → x ≡ 0 → y ≡ 0 → eqb x (pick high y 0) ≡ true
+unfolding pick
+both-none true p q = eq-eqb _ _ (p ∙ sym q)
+both-none false p q = eq-eqb _ _ p
+
+pub in-half-spec : {M : Type 1} → statement M
+unfolding pick
+in-half-spec =
+    tie.close
+    (tie.spec
+    (λ c. search needs)
+    (λ c. search needs)
+    (λ c. search needs)
+    (λ c. rw (c .if2 .taken))
+    (λ c. rw (c .if2 .left))
+    (λ c. let z = c .before .args in let f = c .before .fits in sym (both-none (z .high) (div-eq-of-lt (lt-of-lt-of-le (f .x .fits) (pow-mono (c .if1 .left)))) (div-eq-of-lt (lt-of-lt-of-le (f .ones .fits) (pow-mono (c .if1 .left)))))))
