@@ -16,5 +16,5 @@ start1-spec =
     (λ c. search needs)
     (λ c κs. search needs)
     (λ c. search needs)
-    (λ c. less-fits 4 (c .strides .result) (omega arith) (omega arith))
-    (λ c output. less-is 4 (c .strides .result) (omega arith) (omega arith) ∙ ap (λ n. pos 4 -ℤ pos n) (c .strides .ensures)))
+    (λ c. less-fits _ (c .strides .result) (omega arith) (omega arith))
+    (λ c output. less-is _ (c .strides .result) (omega arith) (omega arith) ∙ ap (λ n. pos 4 -ℤ pos n) (c .strides .ensures)))

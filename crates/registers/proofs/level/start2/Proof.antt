@@ -15,5 +15,5 @@ start2-spec =
     (tie.spec
     (λ c κs. tt)
     (λ c. search needs)
-    (λ c. less-fits 2 (c .sl0 .result) (omega arith) (omega arith))
-    (λ c. less-is 2 (c .sl0 .result) (omega arith) (omega arith) ∙ ap (λ n. pos 2 -ℤ pos n) (c .sl0 .ensures)))
+    (λ c. less-fits _ (c .sl0 .result) (omega arith) (omega arith))
+    (λ c. less-is _ (c .sl0 .result) (omega arith) (omega arith) ∙ ap (λ n. pos 2 -ℤ pos n) (c .sl0 .ensures)))
