@@ -1,4 +1,3 @@
 pub mod Settings
 pub mod Roots
 pub mod Signed
-pub mod Shifts

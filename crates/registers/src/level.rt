@@ -2,12 +2,12 @@
 ghost use mathlib.Core.Path.{_≡_};
 ghost use Prim.Native.Nat.{ℕ, _+_, _-_, _/_, _%_, _≤_};
 ghost use Rattle.registers.specs.Vtcr as VtcrFields;
-ghost use Rattle.registers.specs.Roots as R;
+ghost use Rattle.registers.specs.Roots as Roots;
 use crate::vtcr::Vtcr;
 
 // The output size of IPS or PS. 6 and 7 are no codes.
 pub fn output_size(code: u64) -> u64
-    ensures { λ r. ⌜ r ≡ R.outputSize code ⌝ }
+    ensures { λ r. ⌜ r ≡ Roots.outputSize code ⌝ }
 {
     match code {
         0 => 32,
@@ -21,14 +21,14 @@ pub fn output_size(code: u64) -> u64
 
 // Stage 2's start level, -1 for an SL0 of 3.
 pub fn start2(vtcr: Vtcr) -> i64
-    ensures { λ r. ⌜ r ≡ R.start2 (VtcrFields.sl0 vtcr) ⌝ }
+    ensures { λ r. ⌜ r ≡ Roots.start2 (VtcrFields.sl0 vtcr) ⌝ }
 {
     2 - vtcr.sl0() as i64
 }
 
 // Stage 1's start level, by a size field of six bits. No output size counts.
 pub fn start1(tnsz: u64) -> i64
-    ensures { λ r. ⌜ ((output : ℕ) → r ≡ R.start1 (R.fourK (R.inputSize (tnsz % 64)) output)) ⌝ }
+    ensures { λ r. ⌜ ((output : ℕ) → r ≡ Roots.start1 (Roots.fourK (Roots.inputSize (tnsz % 64)) output)) ⌝ }
 {
     4 - strides(64 - tnsz % 64) as i64
 }
@@ -43,7 +43,7 @@ fn strides(size: u64) -> u64
 
 // The bits of stage 2's root index, below 1 where the start level is too high for the size.
 pub fn size_check(vtcr: Vtcr) -> i64
-    ensures { λ r. ⌜ r ≡ R.sizeCheck (R.fourK (R.inputSize (VtcrFields.t0sz vtcr)) (R.outputSize (VtcrFields.ps vtcr))) (R.start2 (VtcrFields.sl0 vtcr)) ⌝ }
+    ensures { λ r. ⌜ r ≡ Roots.sizeCheck (Roots.fourK (Roots.inputSize (VtcrFields.t0sz vtcr)) (Roots.outputSize (VtcrFields.ps vtcr))) (Roots.start2 (VtcrFields.sl0 vtcr)) ⌝ }
 {
     let size = (64 - vtcr.t0sz()) as i64;
     let start = start2(vtcr);
@@ -52,7 +52,7 @@ pub fn size_check(vtcr: Vtcr) -> i64
 
 // 3 less a level, and 0 past level 3.
 pub fn levels_below(start: i64) -> u64
-    ensures { λ r. ⌜ r ≡ R.levelsBelow start ⌝ }
+    ensures { λ r. ⌜ r ≡ Roots.levelsBelow start ⌝ }
 {
     if start < 0 {
         4 + (-1 - start) as u64

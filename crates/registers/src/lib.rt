@@ -5,7 +5,6 @@ use tcr::Tcr;
 use vtcr::Vtcr;
 
 pub mod accepted;
-mod base;
 pub mod hcr;
 pub mod level;
 pub mod sctlr;

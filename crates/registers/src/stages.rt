@@ -9,12 +9,12 @@ ghost use Rattle.descriptor.specs.Bits.{pick};
 ghost use Rattle.descriptor.specs.declared.entry.FaultKind.the-variants.{Translation};
 ghost use Rattle.walk.specs.declared.stage.Root.the-variants.{Unusable};
 ghost use Rattle.registers.specs.Tcr as TcrFields;
-ghost use Rattle.registers.specs.Roots as R;
+ghost use Rattle.registers.specs.Roots as Roots;
 use crate::El1;
 use crate::El2;
 use crate::accepted;
-use crate::base;
 use crate::level;
+use descriptor::bits;
 use descriptor::entry::FaultKind;
 use descriptor::entry::Geometry;
 use walk::stage::Half;
@@ -24,10 +24,10 @@ use walk::stage::Table;
 // The root table at a base register, with n levels below it, in the 4KB granule.
 fn table_of(input: u64, output: u64, n: u64, register: u64) -> Table
     requires { ⌜ (input ≤ 64) × (n ≤ 8) ⌝ }
-    ensures { λ r. ⌜ r ≡ R.tableOf (R.fourK input output) n register ⌝ }
+    ensures { λ r. ⌜ r ≡ Roots.tableOf (Roots.fourK input output) n register ⌝ }
 {
-    let bits = level::less(input, 12 + 9 * n);
-    let base = base::upper(register, 3 + bits);
+    let width = level::less(input, 12 + 9 * n);
+    let base = bits::upper(register, 3 + width);
     let geometry = Geometry {
         granule: 12,
         stride: 9,
@@ -39,7 +39,7 @@ fn table_of(input: u64, output: u64, n: u64, register: u64) -> Table
     Table {
         geometry,
         levels: n + 1,
-        bits,
+        bits: width,
         base,
     }
 }
@@ -47,7 +47,7 @@ fn table_of(input: u64, output: u64, n: u64, register: u64) -> Table
 // The root at a base register, no bit of which may lie beyond the output size. None where a test holds.
 fn root_unless(test: bool, input: u64, output: u64, n: u64, register: u64) -> Root
     requires { ⌜ (input ≤ 64) × (n ≤ 8) ⌝ }
-    ensures { λ r. ⌜ r ≡ pick test (Unusable Translation 0) (R.rootOf (R.fourK input output) n register) ⌝ }
+    ensures { λ r. ⌜ r ≡ pick test (Unusable Translation 0) (Roots.rootOf (Roots.fourK input output) n register) ⌝ }
 {
     if test {
         return Root::Unusable {
@@ -55,7 +55,7 @@ fn root_unless(test: bool, input: u64, output: u64, n: u64, register: u64) -> Ro
             level: 0,
         };
     }
-    if base::beyond(register, output) {
+    if bits::beyond(register, output) {
         return Root::Unusable {
             kind: FaultKind::AddressSize,
             level: 0,
@@ -67,7 +67,7 @@ fn root_unless(test: bool, input: u64, output: u64, n: u64, register: u64) -> Ro
 // A half of stage 1, by its size field, EPD and TTBR.
 fn half1(ips: u64, tnsz: u64, epd: bool, ttbr: u64) -> Half
     requires { ⌜ tnsz < 64 ⌝ }
-    ensures { λ r. ⌜ r ≡ R.half1 ips tnsz epd ttbr ⌝ }
+    ensures { λ r. ⌜ r ≡ Roots.half1 ips tnsz epd ttbr ⌝ }
 {
     let size = 64 - tnsz;
     let n = level::levels_below(level::start1(tnsz));
@@ -85,7 +85,7 @@ fn startless(start: i64, bits: i64, pamax: u64) -> bool
 }
 
 pub fn root2(r: El2) -> Root
-    ensures { λ s. ⌜ s ≡ R.root2 r ⌝ }
+    ensures { λ s. ⌜ s ≡ Roots.root2 r ⌝ }
 {
     let vtcr = r.vtcr;
     let start = level::start2(vtcr);
@@ -102,7 +102,7 @@ pub fn root2(r: El2) -> Root
 
 // The half of stage 1 that TTBR0 translates.
 fn low_half(g: El1) -> Half
-    ensures { λ r. ⌜ r ≡ R.half1 (TcrFields.ips (g .tcr)) (TcrFields.t0sz (g .tcr)) (TcrFields.epd0 (g .tcr)) (g .ttbr0) ⌝ }
+    ensures { λ r. ⌜ r ≡ Roots.half1 (TcrFields.ips (g .tcr)) (TcrFields.t0sz (g .tcr)) (TcrFields.epd0 (g .tcr)) (g .ttbr0) ⌝ }
 {
     let tcr = g.tcr;
     half1(tcr.ips(), tcr.t0sz(), tcr.epd0(), g.ttbr0)
@@ -110,14 +110,14 @@ fn low_half(g: El1) -> Half
 
 // The half that TTBR1 translates.
 fn high_half(g: El1) -> Half
-    ensures { λ r. ⌜ r ≡ R.half1 (TcrFields.ips (g .tcr)) (TcrFields.t1sz (g .tcr)) (TcrFields.epd1 (g .tcr)) (g .ttbr1) ⌝ }
+    ensures { λ r. ⌜ r ≡ Roots.half1 (TcrFields.ips (g .tcr)) (TcrFields.t1sz (g .tcr)) (TcrFields.epd1 (g .tcr)) (g .ttbr1) ⌝ }
 {
     let tcr = g.tcr;
     half1(tcr.ips(), tcr.t1sz(), tcr.epd1(), g.ttbr1)
 }
 
 pub fn stage1(r: El2, g: El1) -> walk::stage::Stage1
-    ensures { λ s. ⌜ s ≡ R.stage1 r g ⌝ }
+    ensures { λ s. ⌜ s ≡ Roots.stage1 r g ⌝ }
 {
     let hcr = r.hcr;
     let tcr = g.tcr;
@@ -138,7 +138,7 @@ pub fn stage1(r: El2, g: El1) -> walk::stage::Stage1
 }
 
 pub fn stage2(r: El2) -> walk::stage::Stage2
-    ensures { λ s. ⌜ s ≡ R.stage2 r ⌝ }
+    ensures { λ s. ⌜ s ≡ Roots.stage2 r ⌝ }
 {
     let hcr = r.hcr;
     let vtcr = r.vtcr;
