@@ -11,7 +11,7 @@ use Rattle.registers.specs.declared.El1.{El1}
 use Rattle.registers.specs.declared.El2.{El2}
 use Rattle.question.specs.Question.{ask}
 use Rattle.audit.specs.Audit.{audit}
-use Rattle.cases.specs.Asked.{Image, row, before, asked, audited}
+use Rattle.facts.specs.Asked.{Image, row, before, asked, audited}
 
 -- the bytes of a sparse capture
 abbrev pub bytes : Image → List ℕ

@@ -26,8 +26,8 @@ use Rattle.batch.specs.declared.BatchAnswer.the-variants as Batch
 use Rattle.walk.specs.declared.answer.Refusal.the-variants.{BatchLists}
 use Rattle.audit.specs.declared.FindingKind.the-variants.{NotCaptured, TouchesGrant, UnlistedTable, OutsideGrants}
 use Rattle.audit.specs.declared.AuditAnswer.the-variants.{Clean, Found}
-use Rattle.cases.specs.Open.{opened}
-use Rattle.cases.specs.Asked.{Image, Row, before, asked, audited}
+use Rattle.facts.specs.Open.{opened}
+use Rattle.facts.specs.Asked.{Image, Row, before, asked, audited}
 
 -- ---- the capture and the registers that all cases start from
 
