@@ -1,1 +1,1 @@
-// The cases of document 01 as facts of the definitions, in specs/.
+// Facts of the definitions alone: the cases of document 01, in specs/.

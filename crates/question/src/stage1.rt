@@ -94,7 +94,6 @@ fn walk1(
     ensures { λ r. ⌜ Ran (contents base (length (now (bytes .entry))) (now (bytes .entry))) (Walks.walk (Stages.place1 s a) (t .geometry) Stage.One (a .address) (t .levels) (t .bits) (t .base) nothing) (now (log .entry)) count (walked (r .walked)) (r .count) (now (log .exit)) × (r .count ≤ count + 5 * t .levels) ⌝ }
 {
     let g = t.geometry;
-    let granule = g.granule;
     let stride = g.stride;
     let input = a.address;
     let mut h = entry::nothing();
@@ -104,7 +103,7 @@ fn walk1(
     let mut k = count;
     while 0 < left {
         left -= 1;
-        let ipa = table + 8 * bits::field(input, granule + stride * left, bits);
+        let ipa = table::entry_address(g, left, bits, table, input);
         let place = place1(bytes, base, s, a, ipa, log, k);
         k = place.count;
         let located = place.located;

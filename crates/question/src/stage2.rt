@@ -51,7 +51,6 @@ pub(crate) fn walk2(
     ensures { λ r. ⌜ Ran (memory base (length (now (bytes .entry))) (now (bytes .entry))) (Walks.walk done (t .geometry) (Stage.Two ipa onwalk) ipa (t .levels) (t .bits) (t .base) nothing) (now (log .entry)) count (walked (r .walked)) (r .count) (now (log .exit)) × (r .count ≤ count + t .levels) ⌝ }
 {
     let g = t.geometry;
-    let granule = g.granule;
     let stride = g.stride;
     let free = entry::nothing();
     let mut left = t.levels;
@@ -60,7 +59,7 @@ pub(crate) fn walk2(
     let mut k = count;
     while 0 < left {
         left -= 1;
-        let at = table + 8 * bits::field(ipa, granule + stride * left, bits);
+        let at = table::entry_address(g, left, bits, table, ipa);
         let entered = table::enter(
             bytes,
             base,

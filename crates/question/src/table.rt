@@ -1,4 +1,5 @@
 // One entry of a table, at either stage: read, logged and followed.
+use descriptor::bits;
 use descriptor::entry;
 use descriptor::entry::Entry;
 use descriptor::entry::Fetch;
@@ -16,7 +17,7 @@ ghost use Prim.Native.Nat.{_+_, _*_, _≤_, _<_, _^_};
 ghost use lib.ListN.{length};
 ghost use Rattle.descriptor.specs.Entry.{decode};
 ghost use Rattle.capture.specs.Capture.{memory};
-ghost use Rattle.walk.specs.Walk.{inheritAt};
+ghost use Rattle.walk.specs.Walk.{entryAddress, inheritAt};
 ghost use Rattle.question.specs.Entered.{turnAt, Entered};
 
 // Where a walk goes from an entry: to the table below, or to its end.
@@ -28,6 +29,16 @@ pub enum Turn {
 pub struct Stepped {
     pub turn: Turn,
     pub count: usize,
+}
+
+// Where the entry for an input lies, in a table of 2 to the bits entries with n levels below them.
+pub(crate) fn entry_address(g: Geometry, n: u64, bits: u64, table: u64, input: u64) -> u64
+    requires { ⌜ (n ≤ 3) × (g .granule ≤ 16) × (g .stride ≤ 13) × (bits ≤ 16) × (table < 2 ^ 48) ⌝ }
+    ensures { λ r. ⌜ r ≡ entryAddress g n bits table input ⌝ }
+{
+    let granule = g.granule;
+    let stride = g.stride;
+    table + 8 * bits::field(input, granule + stride * n, bits)
 }
 
 // What an entry of stage 1 adds; one of stage 2 adds nothing.

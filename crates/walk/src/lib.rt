@@ -1,3 +1,3 @@
-// The table walk of one stage, both stages of an access, and what an answer holds. So far the types, and the definitions in specs/.
+// What the table walk of one stage and both stages of an access take and give: types here, definitions in specs/, laws in proofs/.
 pub mod answer;
 pub mod stage;

@@ -2,8 +2,7 @@
 -- Assumes nothing.
 use borrow.Author.Needs.{needs}
 use mathlib.Core.Path.{_≡_, refl}
-use Prim.Native.Nat.{_+_, _-_, _*_, _≤_, _<_, _^_}
-use native.Mathlib.Nat.{mul-le-mul}
+use Prim.Native.Nat.{_+_, _-_, _*_, _≤_, _<_}
 use native.Mathlib.Omega.{arith}
 use lib.ListN.{length}
 use Rattle.descriptor.specs.Entry.{nothing}
@@ -12,16 +11,16 @@ use Rattle.walk.specs.Stages.{place1}
 use Rattle.walk.specs.declared.answer.Stage.the-variants.{One}
 use Rattle.question.specs.Ran.{walked, located, SmallRoot}
 use Rattle.question.proofs.Ran.{ran-length}
-use Rattle.question.proofs.Turns.{Walking, field-small, entered-end, walking-over, walking-down, walking-done, walking-stopped}
+use Rattle.question.proofs.Turns.{Walking, entered-end, walking-over, walking-down, walking-done, walking-stopped}
 use Rattle.question.proofs.stage1.walk1.Statement.{statement}
 use Rattle.question.proofs.stage1.walk1.Tie as tie
 
 abbrev Inv-loop : tie.InvT-loop
-Inv-loop bytes base s a log₀ count g granule stride input h₀ left₀ bits₀ table₀ k₀ log h left bits table k =
+Inv-loop bytes base s a log₀ count g stride input h₀ left₀ bits₀ table₀ k₀ log h left bits table k =
     Walking (memory base (length bytes) bytes) (place1 s a) g One (a .address) log₀ count left₀ bits₀ table₀ nothing log k left bits table h × (k + 5 * left ≤ count + 5 * left₀)
 
 abbrev μ-loop : tie.MeasureT-loop
-μ-loop bytes base s a log₀ count g granule stride input h₀ left₀ bits₀ table₀ k₀ log h left bits table k = left
+μ-loop bytes base s a log₀ count g stride input h₀ left₀ bits₀ table₀ k₀ log h left bits table k = left
 
 loop-holds : tie.Need-loop-holds Inv-loop μ-loop
 loop-holds c = (
@@ -29,25 +28,10 @@ loop-holds c = (
   search needs,
 )
 
-mul-field : tie.Need-mul-field Inv-loop μ-loop
-mul-field c =
-    let few : c .before .loop .left - 1 ≤ 3 = omega arith in
-    omega (arith, mul-le-mul (c .before .loop .inv .0 .stride) few)
-
-add-field : tie.Need-add-field Inv-loop μ-loop
-add-field c =
-    let few : c .before .loop .left - 1 ≤ 3 = omega arith in
-    omega (arith, mul-le-mul (c .before .loop .inv .0 .stride) few)
-
-mul-ipa : tie.Need-mul-ipa Inv-loop μ-loop
-mul-ipa c =
-    let small : c .field .result < 2 ^ 16 = rw (c .field .ensures) (field-small _ _ _ (c .before .before .loop .inv .0 .narrow)) in
-    omega arith
-
-add-ipa : tie.Need-add-ipa Inv-loop μ-loop
-add-ipa c =
-    let small : c .field .result < 2 ^ 16 = rw (c .field .ensures) (field-small _ _ _ (c .before .before .loop .inv .0 .narrow)) in
-    omega (arith, c .before .before .loop .inv .0 .low)
+entry-address-requires : tie.Need-entry-address-requires Inv-loop μ-loop
+entry-address-requires c κs =
+    let w = c .before .loop .inv .0 in
+    (omega (arith, w .few), w .granule, w .stride, w .narrow, w .low)
 
 place1-requires : tie.Need-place1-requires Inv-loop μ-loop
 place1-requires c κs = (c .before .before .before .before .before .before .before .before .pre .1, omega (arith, c .before .before .before .loop .inv .1, c .before .before .before .loop .inv .0 .same, c .before .before .before .before .before .before .before .before .pre .2))
@@ -57,7 +41,7 @@ unfolding located walked
 returns c =
     let p = c .before .before .before .before .before in
     let l = p .before .before .before .before in (
-      walking-stopped (l .loop .inv .0) (p .before .before .before .loop-test .taken) (rw (c .before .located .given .1, p .before .before .field .ensures) at (p .place1 .ensures .0)),
+      walking-stopped (l .loop .inv .0) (p .before .before .before .loop-test .taken) (rw (c .before .located .given .1, p .before .before .entry-address .ensures) at (p .place1 .ensures .0)),
       omega (arith, p .place1 .ensures .1, l .loop .inv .1),
     )
 
@@ -77,7 +61,7 @@ returns-2 c =
     let e = c .before .before .before .before .before in
     let p = e .before .before .before .before .before .before .before in
     let l = p .before .before .before .before in (
-      walking-over (l .loop .inv .0) (p .before .before .before .loop-test .taken) (rw (e .before .before .before .located2 .given .1, p .before .before .field .ensures) at (p .place1 .ensures .0)) (e .enter .ensures) _ (c .before .turn .given .1),
+      walking-over (l .loop .inv .0) (p .before .before .before .loop-test .taken) (rw (e .before .before .before .located2 .given .1, p .before .before .entry-address .ensures) at (p .place1 .ensures .0)) (e .enter .ensures) _ (c .before .turn .given .1),
       omega (arith, entered-end (e .enter .ensures), p .place1 .ensures .1, l .loop .inv .1),
     )
 
@@ -87,7 +71,7 @@ loop-again c =
     let e = c .before .before .before .before .before in
     let p = e .before .before .before .before .before .before .before in
     let l = p .before .before .before .before in (
-      walking-down (l .loop .inv .0) (p .before .before .before .loop-test .taken) (rw (e .before .before .before .located2 .given .1, p .before .before .field .ensures) at (p .place1 .ensures .0)) (e .enter .ensures) _ _ (c .before .turn2 .given .1)
+      walking-down (l .loop .inv .0) (p .before .before .before .loop-test .taken) (rw (e .before .before .before .located2 .given .1, p .before .before .entry-address .ensures) at (p .place1 .ensures .0)) (e .enter .ensures) _ _ (c .before .turn2 .given .1)
           (ran-length (p .place1 .ensures .0)),
       omega (arith, entered-end (e .enter .ensures), p .place1 .ensures .1, l .loop .inv .1),
     )
@@ -105,11 +89,7 @@ walk1-spec =
     (λ c κs. search needs)
     loop-holds
     (λ c. search needs)
-    mul-field
-    add-field
-    (λ c κs. search needs)
-    mul-ipa
-    add-ipa
+    entry-address-requires
     place1-requires
     (λ c. search needs)
     (λ c. search needs)
