@@ -106,10 +106,11 @@ pub(crate) fn enter(
             count: k,
         },
         Fetch::Word(x) => {
+            let next = k + 1;
             log[k] = at;
             Stepped {
                 turn: turn_at(g, s, n, x, h),
-                count: k + 1,
+                count: next,
             }
         }
     }

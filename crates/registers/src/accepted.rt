@@ -50,6 +50,7 @@ fn listed_size_field(n: u64) -> bool
         _ => false,
     }
 }
+
 // What is asked only where a test holds.
 fn implies(test: bool, asked: bool) -> bool
     ensures { λ yes. ⌜ yes ≡ Settings.implies test asked ⌝ }
