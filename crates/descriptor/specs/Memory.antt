@@ -45,13 +45,13 @@ isNonCacheable NonCacheable = true
 isNonCacheable WriteThrough = false
 isNonCacheable WriteBack = false
 
--- Device, and Normal Non-cacheable both ways, are outer shareable
+-- Device, and Normal Non-cacheable both ways, are outer shareable (01, Attributes, combining)
 unfoldable pub reported : MemoryType → Shareability → Attributes
 reported (Device d) s = record { memory = Device d; shareability = OuterShareable }
 reported (Normal o i) s =
     record { memory = Normal o i; shareability = pick (isNonCacheable o && isNonCacheable i) OuterShareable s }
 
--- Normal memory with caching off is Non-cacheable; SH 1 is unsettled on Normal memory
+-- Normal memory with caching off is Non-cacheable; SH 1 is unsettled on Normal memory (01, Attributes, SH)
 unfoldable pub normal : (uncached : Bool) (sh : ℕ) → Cacheability → Cacheability → Decoded
 normal uncached sh o i =
     pick (eqb sh 1) Unsettled
@@ -62,7 +62,7 @@ device d = Settled (reported (Device d) OuterShareable)
 
 -- ---- decoding
 
--- stage 1: a byte of MAIR, and SH
+-- stage 1: a byte of MAIR, and SH (01, Attributes, stage 1)
 unfoldable pub mairByte : (uncached : Bool) (sh byte : ℕ) → Decoded
 mairByte uncached sh byte =
     pick (eqb (byte / 16) 0)
@@ -74,7 +74,7 @@ mairByte uncached sh byte =
 abbrev pub stage1Attributes : (mair : ℕ) (uncached : Bool) (x : ℕ) → Decoded
 stage1Attributes mair uncached x = mairByte uncached (field x 8 2) (field mair (8 * field x 2 3) 8)
 
--- stage 2's codes in bits 5:4 (outer) and 3:2 (inner)
+-- stage 2's codes in bits 5:4 (outer) and 3:2 (inner) (01, Attributes, stage 2)
 unfoldable pub stage2Codes : (uncached : Bool) (sh outer inner : ℕ) → Decoded
 stage2Codes uncached sh outer inner =
     pick (eqb outer 0) (device (deviceOf inner))
@@ -86,7 +86,7 @@ stage2Attributes uncached x = stage2Codes uncached (field x 8 2) (field x 4 2) (
 
 -- ---- stage 1 off
 
--- by HCR_EL2.DC, by whether the access is a fetch, and by SCTLR_EL1.I
+-- by HCR_EL2.DC, by whether the access is a fetch, and by SCTLR_EL1.I (01, Attributes, stage 1 off)
 unfoldable pub flatAttributes : (dc fetch i : Bool) → Attributes
 flatAttributes dc fetch i =
     pick dc (reported (Normal WriteBack WriteBack) NonShareable)
@@ -94,7 +94,7 @@ flatAttributes dc fetch i =
     (pick i (reported (Normal WriteThrough WriteThrough) OuterShareable) (reported (Normal NonCacheable NonCacheable) OuterShareable))
     (reported (Device NGnRnE) OuterShareable))
 
--- ---- combining
+-- ---- combining (01, Attributes, combining): of two the one with the lower rank wins, and Device memory over Normal
 
 unfoldable pub deviceRank : DeviceType → ℕ
 deviceRank NGnRnE = 0

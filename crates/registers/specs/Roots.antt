@@ -25,7 +25,7 @@ use Rattle.registers.specs.declared.El2.{El2}
 
 -- ---- sizes and levels
 
--- the output size of IPS or PS
+-- the output size of IPS or PS (01, Walk, output size)
 unfoldable pub outputSize : ℕ → ℕ
 outputSize code = pick (eqb code 0) 32 (pick (eqb code 1) 36 (pick (eqb code 2) 40 (pick (eqb code 3) 42 (pick (eqb code 4) 44 48))))
 
@@ -37,15 +37,15 @@ fourK input output = record { granule = 12; stride = 9; input = input; output = 
 abbrev pub inputSize : ℕ → ℕ
 inputSize tnsz = 64 - tnsz
 
--- stage 1's start level: 4 less the strides that the input bits above the granule take, rounded up
+-- stage 1's start level (01, Walk): 4 less the strides that the input bits above the granule take, rounded up
 unfoldable pub start1 : Geometry → ℤ
 start1 g = pos 4 -ℤ pos ((g .input - g .granule + (g .stride - 1)) / g .stride)
 
--- stage 2's start level, -1 for an SL0 of 3
+-- stage 2's start level, -1 for an SL0 of 3 (01, Walk)
 unfoldable pub start2 : (sl0 : ℕ) → ℤ
 start2 sl0 = pos 2 -ℤ pos sl0
 
--- the bits of a root's index, below 1 where the start level is too high for the size
+-- the size check (01, Walk): the bits of a root's index, below 1 where the start level is too high for the size
 unfoldable pub sizeCheck : Geometry → (start : ℤ) → ℤ
 sizeCheck g start = pos (g .input) -ℤ ((pos 3 -ℤ start) *ℤ pos (g .stride) +ℤ pos (g .granule))
 
@@ -62,7 +62,7 @@ abbrev pub tableOf : Geometry → (n register : ℕ) → Table
 tableOf g n register =
     record { geometry = g; levels = suc n; bits = g .input - shift g n; base = upper register (3 + (g .input - shift g n)) }
 
--- no bit of a base register may lie beyond the output size
+-- no bit of a base register may lie beyond the output size (01, Walk, output size)
 unfoldable pub rootOf : Geometry → (n register : ℕ) → Root
 rootOf g n register = pick (beyond register (g .output)) (Unusable AddressSize 0) (Usable (tableOf g n register))
 
@@ -72,7 +72,7 @@ half1 ips tnsz epd ttbr =
     let g = fourK (inputSize tnsz) (outputSize ips) in
     record { size = inputSize tnsz; root = pick epd (Unusable Translation 0) (rootOf g (levelsBelow (start1 g)) ttbr) }
 
--- stage 2 starts at no level below 0, at level 0 only where PAMax is over 42, and with 1 to 13 index bits
+-- stage 2 (01, Walk) starts at no level below 0, at level 0 only where PAMax is over 42, and with 1 to 13 index bits
 unfoldable pub root2 : El2 → Root
 root2 r =
     let g = fourK (inputSize (Vtcr.t0sz (r .vtcr))) (outputSize (Vtcr.ps (r .vtcr))) in

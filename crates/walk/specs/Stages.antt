@@ -46,15 +46,15 @@ give (Stopped e) = stop e
 
 -- ---- stage 2
 
--- the root for an IPA, whose bits 47 down to the input size must be 0
+-- the root for an IPA, whose bits 47 down to the input size must be 0 (01, Walk, input size)
 abbrev pub root2At : Stage2 → ℕ → Root
 root2At s ipa = pick (beyond ipa (s .size)) (Unusable F.Translation 0) (s .root)
 
--- CD counts for data and on-walk, ID for a fetch's own walk
+-- CD counts for data and on-walk, ID for a fetch's own walk (01, Attributes, stage 2)
 abbrev pub uncached2 : Stage2 → Access → (onWalk : Bool) → Bool
 uncached2 s a onWalk = pick (isFetch a && not onWalk) (s .id) (s .cd)
 
--- Device memory is no place to fetch from, nor with PTW to walk in: both are permission faults
+-- Device memory is no place to fetch from, nor with PTW to walk in: both are permission faults (01, Checks)
 abbrev pub refused2 : Stage2 → Access → (onWalk device : Bool) → Bool
 refused2 s a onWalk device = device && (isFetch a || (onWalk && s .ptw))
 
@@ -62,7 +62,7 @@ refused2 s a onWalk device = device && (isFetch a || (onWalk && s .ptw))
 abbrev pub denied2 : Stage2 → Access → (onWalk device : Bool) → (x : ℕ) → Bool
 denied2 s a onWalk device x = not (stage2Permits onWalk a x) || refused2 s a onWalk device
 
--- the checks after stage 2's walk; alignment is never tested on-walk
+-- the checks after stage 2's walk; alignment is never tested on-walk (01, Checks; attributes come first, 01, Walk, descriptors)
 unfoldable pub check2 : Stage2 → Access → (onWalk : Bool) (ipa : ℕ) → Leaf → Checked
 check2 s a onWalk ipa l =
     settled (unsettled (Two ipa onWalk) (l .level))
@@ -77,11 +77,11 @@ translate2 s a onWalk ipa = bind (walkFrom done (Two ipa onWalk) ipa (root2At s 
 
 -- ---- stage 1
 
--- where a stage 1 descriptor lies: with stage 2 on, its address is translated first
+-- where a stage 1 descriptor lies: with stage 2 on, its address is translated first (01, Walk, stage 1 with stage 2 on)
 unfoldable pub place1 : Stage2 → Access → ℕ → Reading ℕ
 place1 s a at = pick (s .on) (bind (translate2 s a true at) (λ o. done (o .address))) (done at)
 
--- the highest address bit that counts, by TBI and address bit 55
+-- the highest address bit that counts, by TBI and address bit 55 (01, Walk, Top)
 abbrev pub top : Stage1 → ℕ → ℕ
 top s a = pick (pick (bit a 55) (s .tbi1) (s .tbi0)) 55 63
 
@@ -92,7 +92,7 @@ isHigh s a = bit a (top s a)
 abbrev pub half : Stage1 → ℕ → Half
 half s a = pick (isHigh s a) (s .high) (s .low)
 
--- bits Top down to the half's size are all 0 in the low half, and in the high one all 1, as in an address of ones
+-- bits Top down to the half's size are all 0 in the low half, and in the high one all 1, as in an address of ones (01, Walk, input size)
 abbrev pub inHalf : Stage1 → ℕ → Bool
 inHalf s a =
     let t = suc (top s a) in
@@ -103,7 +103,7 @@ inHalf s a =
 abbrev pub root1At : Stage1 → ℕ → Root
 root1At s a = pick (inHalf s a) (half s a .root) (Unusable F.Translation 0)
 
--- C counts for data, I for a fetch
+-- C counts for data, I for a fetch (01, Attributes, stage 1)
 abbrev pub uncached1 : Stage1 → Access → Bool
 uncached1 s a = not (pick (isFetch a) (s .i) (s .c))
 
@@ -111,7 +111,7 @@ uncached1 s a = not (pick (isFetch a) (s .i) (s .c))
 abbrev pub denied1 : Stage1 → Access → (device : Bool) → Leaf → Bool
 denied1 s a device l = not (stage1Permits (s .wxn) a (l .inherited) (l .word)) || (device && isFetch a)
 
--- the checks after stage 1's walk
+-- the checks after stage 1's walk (01, Checks)
 unfoldable pub check1 : Stage1 → Access → Leaf → Checked
 check1 s a l =
     settled (unsettled One (l .level))
@@ -121,7 +121,7 @@ check1 s a l =
     (Passed (record { address = outputAddress (l .word) (l .shift) (a .address); attributes = attrs; level = l .level }))))
     (stage1Attributes (s .mair) (uncached1 s a) (l .word))
 
--- stage 1 off: the address as it is, if its bits Top down to PAMax are 0; no permission is tested
+-- stage 1 off: the address as it is, if its bits Top down to PAMax are 0; no permission is tested (01, Attributes, stage 1 off; Checks)
 unfoldable pub flat : Stage1 → Access → Checked
 flat s a =
     let attrs = flatAttributes (s .dc) (isFetch a) (s .i) in
@@ -136,7 +136,7 @@ translate1 s root s2 a =
 
 -- ---- the access
 
--- stage 2 of an access, after stage 1's output
+-- stage 2 of an access, after stage 1's output; a stage that is off has level 0 (01, Answer numbers, 0; Attributes, combining)
 unfoldable pub finish : Stage2 → Access → Output → Reading Translation
 finish s a o =
     pick (s .on)
