@@ -1,6 +1,6 @@
 // The capture that the cases start from.
 // Writes a word, least significant byte first, as far as it fits.
-pub fn put(bytes: &mut [u8], at: usize, word: u64) {
+pub(crate) fn put(bytes: &mut [u8], at: usize, word: u64) {
     let mut rest = word;
     let mut i = at;
     let mut left: usize = 8;
@@ -15,7 +15,7 @@ pub fn put(bytes: &mut [u8], at: usize, word: u64) {
     }
 }
 
-pub fn fill(bytes: &mut [u8]) {
+pub(crate) fn fill(bytes: &mut [u8]) {
     put(bytes, 0x0, 0x4000_1003);
     put(bytes, 0x1000, 0x4000_2003);
     put(bytes, 0x2008, 0x4000_37ff);

@@ -14,7 +14,7 @@ use walk::answer::Refusal;
 use walk::answer::Stage;
 use walk::answer::Translation;
 
-pub fn text(t: &[u8]) {
+pub(crate) fn text(t: &[u8]) {
     io::write_all(STDOUT_FILENO, t);
 }
 
@@ -142,7 +142,7 @@ fn reads(n: u64) {
     number(b", reads ", n);
 }
 
-pub fn answer(a: Answer) {
+pub(crate) fn answer(a: Answer) {
     match a {
         Answer::Translated { to, reads: n } => {
             translation(to);
@@ -174,7 +174,7 @@ fn address(n: u64) {
 }
 
 // The addresses read, up to the first word that a question left as it was, zero.
-pub fn log(words: &[u64]) {
+pub(crate) fn log(words: &[u64]) {
     text(b" |");
     let mut i = 0;
     while i < words.len() {
