@@ -9,7 +9,7 @@ use native.Mathlib.Omega.{arith}
 use lib.ListN.{length, getD}
 use borrow.Author.Tests.{not-false}
 use Rattle.descriptor.specs.Program.{stage-1, stage-2, Request, Outcome, reached, stopped, run, reads, stop, All, nil, cons}
-use Rattle.descriptor.specs.declared.access.Access.{Access}
+use Rattle.access.specs.declared.Access.{Access}
 use Rattle.descriptor.specs.declared.entry.Fetch.{Fetch}
 use Rattle.descriptor.specs.declared.entry.Fetch.the-variants.{Word}
 use Rattle.descriptor.proofs.Holds.{OnOutcome, Holds, on-stop, holds-reads, holds-run, holds-pick}
@@ -26,11 +26,11 @@ use Rattle.walk.specs.declared.stage.Root.{Root}
 use Rattle.walk.specs.declared.stage.Root.the-variants.{Unusable, Usable}
 use Rattle.walk.specs.declared.stage.Table.{Table}
 use Rattle.walk.proofs.Accesses.{Spot, Hit, Around, holds-access}
-use Rattle.registers.specs.Settings.{stage2On}
-use Rattle.registers.specs.Roots.{root2, stage1, stage2}
+use Rattle.regime.specs.Settings.{stage2On}
+use Rattle.regime.specs.Roots.{root2, stage1, stage2}
 use Rattle.registers.specs.declared.El1.{El1}
 use Rattle.registers.specs.declared.El2.{El2}
-use Rattle.registers.proofs.Roots.{Sane, root2-sane, root1-aligned}
+use Rattle.regime.proofs.Roots.{Sane, root2-sane, root1-aligned}
 use Rattle.question.specs.Refusals.{Ground, refuse}
 use Rattle.question.specs.Question.{question, told, ask}
 use Rattle.question.proofs.Refusals.{refuse-some, refuse-none, none-holds}

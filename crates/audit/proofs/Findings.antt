@@ -8,7 +8,7 @@ use native.Mathlib.Nat.{not-suc-le-zero, le-of-suc-le-suc}
 use native.Mathlib.Omega.{arith}
 use lib.Dec.{leb, ltb, eqb}
 use borrow.Author.Tests.{eqb-true}
-use Rattle.descriptor.specs.Bits.{pick, upper}
+use Rattle.bits.specs.Bits.{pick, upper}
 use Rattle.descriptor.specs.Program.{Request}
 use Rattle.descriptor.specs.Entry.{shift, shape}
 use Rattle.descriptor.specs.declared.entry.Fetch.{Fetch}
@@ -16,7 +16,7 @@ use Rattle.descriptor.specs.declared.entry.Fetch.the-variants.{Word}
 use Rattle.descriptor.specs.declared.entry.Geometry.{Geometry}
 use Rattle.descriptor.specs.declared.entry.Shape.{Shape}
 use Rattle.descriptor.specs.declared.entry.Shape.the-variants as Shape
-use Rattle.descriptor.proofs.Tests.{and-left, and-right}
+use Rattle.bits.proofs.Tests.{and-left, and-right}
 use Rattle.walk.specs.declared.stage.Table.{Table}
 use Rattle.walk.proofs.Walks.{Says}
 use Rattle.audit.specs.Audit.{found, orElse, granted, isListed, stage2Read, eachEntry, examineAs, examine, auditTable, auditListed}

@@ -9,7 +9,7 @@ use native.Mathlib.Omega.{arith}
 use lib.Dec.{leb}
 use lib.Pow.{pow-pos, pow-add}
 use borrow.Author.Tests.{leb-true, le-leb}
-use Rattle.descriptor.specs.Bits.{upper}
+use Rattle.bits.specs.Bits.{upper}
 use Rattle.descriptor.specs.Entry.{outputAddress}
 use Rattle.audit.specs.Audit.{granted}
 use Rattle.audit.specs.Confinement.{InFrame}

@@ -5,7 +5,7 @@ use mathlib.Core.List.{List, [], _∷_}
 use Prim.Native.Nat.{ℕ, zero, suc, _+_, _-_, _*_, _/_, _%_, _^_}
 use lib.Dec.{ltb, leb, eqb}
 use lib.ListN.{length}
-use Rattle.descriptor.specs.Bits.{pick, upper}
+use Rattle.bits.specs.Bits.{pick, upper}
 use Rattle.descriptor.specs.Program.{Request, stage-2}
 use Rattle.descriptor.specs.Entry.{shift, shape}
 use Rattle.descriptor.specs.declared.entry.Fetch.{Fetch}
@@ -19,8 +19,8 @@ use Rattle.walk.specs.declared.answer.Refusal.the-variants.{AuditLists, NoRoot}
 use Rattle.walk.specs.declared.stage.Root.{Root}
 use Rattle.walk.specs.declared.stage.Root.the-variants.{Unusable, Usable}
 use Rattle.walk.specs.declared.stage.Table.{Table}
-use Rattle.registers.specs.Settings.{stage2On, auditSettings}
-use Rattle.registers.specs.Roots.{root2}
+use Rattle.regime.specs.Settings.{stage2On, auditSettings}
+use Rattle.regime.specs.Roots.{root2}
 use Rattle.registers.specs.declared.El2.{El2}
 use Rattle.question.specs.Refusals.{Ground, refuse, highCapture, failing}
 use Rattle.audit.specs.Lists.{zip, wellFormed}

@@ -6,7 +6,7 @@ use mathlib.Core.List.{List}
 use Prim.Native.Nat.{ℕ, _+_, _*_, _%_, _^_, _≤_}
 use lib.ListN.{length}
 use Rattle.descriptor.specs.Program.{Reader, stage-1, stage-2, Request, All}
-use Rattle.descriptor.specs.declared.access.Access.{Access}
+use Rattle.access.specs.declared.Access.{Access}
 use Rattle.capture.specs.Capture.{SameBytes}
 use Rattle.walk.specs.declared.answer.Stage.{Stage}
 use Rattle.walk.specs.declared.answer.Stage.the-variants.{One, Two}
@@ -15,7 +15,7 @@ use Rattle.walk.specs.declared.answer.Answer.the-variants as A
 use Rattle.walk.specs.declared.stage.Root.{Root}
 use Rattle.walk.specs.declared.stage.Root.the-variants.{Usable}
 use Rattle.walk.specs.declared.stage.Table.{Table}
-use Rattle.registers.specs.Roots.{root2}
+use Rattle.regime.specs.Roots.{root2}
 use Rattle.registers.specs.declared.El1.{El1}
 use Rattle.registers.specs.declared.El2.{El2}
 use Rattle.question.specs.Question.{Told, ask}

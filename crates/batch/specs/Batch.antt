@@ -5,9 +5,9 @@ use mathlib.Core.List.{List, [], _∷_, map}
 use Prim.Native.Nat.{ℕ, _+_}
 use lib.Dec.{ltb, leb, eqb}
 use lib.ListN.{length}
-use Rattle.descriptor.specs.Bits.{pick}
+use Rattle.bits.specs.Bits.{pick}
 use Rattle.descriptor.specs.Program.{Request}
-use Rattle.descriptor.specs.Access.{listed}
+use Rattle.access.specs.Access.{listed}
 use Rattle.descriptor.specs.declared.entry.Fetch.{Fetch}
 use Rattle.capture.specs.Capture.{memory}
 use Rattle.walk.specs.Answers.{number}
@@ -15,7 +15,7 @@ use Rattle.walk.specs.declared.answer.Refusal.{Refusal}
 use Rattle.walk.specs.declared.answer.Refusal.the-variants.{BatchLists, Unlisted}
 use Rattle.walk.specs.declared.answer.Answer.{Answer}
 use Rattle.walk.specs.declared.answer.Answer.the-variants as A
-use Rattle.registers.specs.Settings.{settings}
+use Rattle.regime.specs.Settings.{settings}
 use Rattle.registers.specs.declared.El1.{El1}
 use Rattle.registers.specs.declared.El2.{El2}
 use Rattle.question.specs.Refusals.{Ground, refuse, highCapture, failing}

@@ -1,5 +1,5 @@
 // Runs the cases of document 01 on the proved question and prints a line for each.
-use descriptor::access::Access;
+use access::Access;
 use registers::El1;
 use registers::El2;
 use registers::hcr::Hcr;

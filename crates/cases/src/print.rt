@@ -1,10 +1,10 @@
 // Answers as text.
 use descriptor::entry::FaultKind;
-use descriptor::memory::Attributes;
-use descriptor::memory::Cacheability;
-use descriptor::memory::DeviceType;
-use descriptor::memory::MemoryType;
-use descriptor::memory::Shareability;
+use attributes::Attributes;
+use attributes::Cacheability;
+use attributes::DeviceType;
+use attributes::MemoryType;
+use attributes::Shareability;
 use libc::STDOUT_FILENO;
 use walk::answer::Answer;
 use walk::answer::Fault;

@@ -1,5 +1,3 @@
-pub mod Tests
-pub mod Shifts
 pub mod Laws
 pub mod Holds
 pub mod Tally

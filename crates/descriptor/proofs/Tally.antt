@@ -6,7 +6,7 @@ use mathlib.Core.List.{List, [], _∷_, _++_}
 use Prim.Native.Nat.{ℕ, suc, _+_, _≤_, zero-le}
 use native.Mathlib.Omega.{arith}
 use lib.ListN.{length, length-append}
-use Rattle.descriptor.specs.Bits.{pick}
+use Rattle.bits.specs.Bits.{pick}
 use Rattle.descriptor.specs.Program.{Outcome, reached, stopped, Program, done, stop, ask, All, nil, counted, bind, run, reads, ends}
 use Rattle.descriptor.specs.declared.entry.Fetch.{Fetch}
 use Rattle.descriptor.specs.declared.entry.Fetch.the-variants.{Absent, Word}

@@ -4,7 +4,7 @@
 use mathlib.Core.Bool.{Bool, true, false, _&&_, _||_}
 use Prim.Native.Nat.{ℕ, _+_, _*_, _/_, _%_, _^_}
 use lib.Dec.{ltb, leb, eqb}
-use Rattle.descriptor.specs.Bits.{pick, bit, upper, beyond}
+use Rattle.bits.specs.Bits.{pick, bit, upper, beyond}
 use Rattle.descriptor.specs.declared.entry.Geometry.{Geometry}
 use Rattle.descriptor.specs.declared.entry.Shape.{Shape}
 use Rattle.descriptor.specs.declared.entry.Shape.the-variants.{Void, Table, Leaf}

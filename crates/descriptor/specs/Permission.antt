@@ -3,9 +3,9 @@
 use mathlib.Core.Bool.{Bool, true, not, _&&_, _||_}
 use Prim.Native.Nat.{ℕ, _/_, _%_, _^_}
 use lib.Dec.{eqb}
-use Rattle.descriptor.specs.Bits.{pick, bit}
-use Rattle.descriptor.specs.Access.{isRead, isWrite, atEl0}
-use Rattle.descriptor.specs.declared.access.Access.{Access}
+use Rattle.bits.specs.Bits.{pick, bit}
+use Rattle.access.specs.Access.{isRead, isWrite, atEl0}
+use Rattle.access.specs.declared.Access.{Access}
 use Rattle.descriptor.specs.declared.entry.Inherited.{Inherited}
 
 -- ---- stage 1, with what the tables impose. AP is bits 7:6.

@@ -1,7 +1,7 @@
-use crate::bits::beyond;
-use crate::bits::bit;
-use crate::bits::lower;
-use crate::bits::upper;
+use bits::beyond;
+use bits::bit;
+use bits::lower;
+use bits::upper;
 ghost use mathlib.Core.Path.{_≡_};
 ghost use Rattle.descriptor.specs.Entry as Entries;
 

@@ -1,6 +1,3 @@
-// Descriptors: what a read finds, what an entry of a table says, memory attributes and permissions.
-pub mod access;
-pub mod bits;
+// Descriptors: what a read finds, what an entry of a table says, and what its permissions allow.
 pub mod entry;
-pub mod memory;
 pub mod permission;

@@ -1,14 +1,14 @@
 // Permissions of a leaf's descriptor x, for each stage.
-use crate::access::Access;
-use crate::access::at_el0;
-use crate::access::is_read;
-use crate::access::is_write;
-use crate::bits::bit;
+use access::Access;
+use access::at_el0;
+use access::is_read;
+use access::is_write;
+use bits::bit;
 use crate::entry::Inherited;
 ghost use mathlib.Core.Path.{_≡_};
 ghost use mathlib.Core.Bool.{_&&_, _||_, not};
-ghost use Rattle.descriptor.specs.Bits as Bits;
-ghost use Rattle.descriptor.specs.Access.{isRead};
+ghost use Rattle.bits.specs.Bits as Bits;
+ghost use Rattle.access.specs.Access.{isRead};
 ghost use Rattle.descriptor.specs.Permission as Permissions;
 
 // AP is bits 7:6. Bit 7 clear: EL1 may write.

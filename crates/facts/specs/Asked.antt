@@ -3,7 +3,7 @@
 use mathlib.Core.List.{List, [], _∷_}
 use Prim.Native.Nat.{ℕ}
 use lib.ListN.{replicate}
-use Rattle.descriptor.specs.declared.access.Access.{Access}
+use Rattle.access.specs.declared.Access.{Access}
 use Rattle.capture.specs.Sparse.{sparse}
 use Rattle.walk.specs.Answers.{Value, number, carries}
 use Rattle.registers.specs.declared.El1.{El1}

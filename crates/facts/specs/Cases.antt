@@ -6,18 +6,18 @@ use mathlib.Core.List.{List, [], _∷_, _++_}
 use Prim.Native.Nat.{ℕ, _-_}
 use lib.IntN.{pos, negsuc}
 use lib.ListN.{length, replicate}
-use Rattle.descriptor.specs.declared.access.Access.{Access}
-use Rattle.descriptor.specs.declared.memory.DeviceType.the-variants.{NGnRnE}
-use Rattle.descriptor.specs.declared.memory.Cacheability.the-variants.{WriteBack}
-use Rattle.descriptor.specs.declared.memory.MemoryType.the-variants.{Device, Normal}
-use Rattle.descriptor.specs.declared.memory.Shareability.the-variants.{OuterShareable, InnerShareable}
-use Rattle.descriptor.specs.declared.memory.Attributes.{Attributes}
+use Rattle.access.specs.declared.Access.{Access}
+use Rattle.attributes.specs.declared.DeviceType.the-variants.{NGnRnE}
+use Rattle.attributes.specs.declared.Cacheability.the-variants.{WriteBack}
+use Rattle.attributes.specs.declared.MemoryType.the-variants.{Device, Normal}
+use Rattle.attributes.specs.declared.Shareability.the-variants.{OuterShareable, InnerShareable}
+use Rattle.attributes.specs.declared.Attributes.{Attributes}
 use Rattle.capture.specs.Sparse.{sparse}
 use Rattle.walk.specs.Answers.{Value, address, attributes, stage, level, level1, level2, on-walk, ipa, reads, item}
 use Rattle.registers.specs.declared.El1.{El1}
 use Rattle.registers.specs.declared.El2.{El2}
-use Rattle.registers.specs.Settings.{settings}
-use Rattle.registers.specs.Roots.{fourK, start2, sizeCheck}
+use Rattle.regime.specs.Settings.{settings}
+use Rattle.regime.specs.Roots.{fourK, start2, sizeCheck}
 use Rattle.question.specs.Question.{question, told}
 use Rattle.batch.specs.Batch.{Shared, toldBatch}
 use Rattle.batch.specs.Ledger.{ascii, line}

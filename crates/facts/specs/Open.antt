@@ -1,17 +1,17 @@
 -- All definitions that a case computes with, under one name for an `unfolding` line.
 -- Assumes nothing.
-use Rattle.descriptor.specs.Bits.{pick}
+use Rattle.bits.specs.Bits.{pick}
 use Rattle.descriptor.specs.Program.{bind, run, reads, ends}
 use Rattle.descriptor.specs.Entry.{shape, decodeAs}
-use Rattle.descriptor.specs.Memory.{deviceOf, mairNibble, stage2Bits, shareabilityOf, isDevice, isNonCacheable, reported, normal, mairByte, stage2Codes, flatAttributes, deviceRank, cacheRank, shareRank, combineMemory}
+use Rattle.attributes.specs.Attributes.{deviceOf, mairNibble, stage2Bits, shareabilityOf, isDevice, isNonCacheable, reported, normal, mairByte, stage2Codes, flatAttributes, deviceRank, cacheRank, shareRank, combineMemory}
 use Rattle.descriptor.specs.Permission.{stage1Permits, stage2Permits}
 use Rattle.capture.specs.Capture.{little, within, memory}
 use Rattle.capture.specs.Sparse.{wordAt, byteAt, image, descriptorAt, sparse}
 use Rattle.walk.specs.Walk.{fetched, follow, walk, walkFrom}
 use Rattle.walk.specs.Stages.{unless, settled, give, check2, translate2, place1, check1, flat, translate1, finish, access}
 use Rattle.walk.specs.Answers.{answer, number, carries}
-use Rattle.registers.specs.Settings.{firstFailing, settings, auditSettings}
-use Rattle.registers.specs.Roots.{outputSize, start1, start2, sizeCheck, levelsBelow, rootOf, root2, stage1, stage2}
+use Rattle.regime.specs.Settings.{firstFailing, settings, auditSettings}
+use Rattle.regime.specs.Roots.{outputSize, start1, start2, sizeCheck, levelsBelow, rootOf, root2, stage1, stage2}
 use Rattle.question.specs.Refusals.{refuse}
 use Rattle.question.specs.Question.{question, told}
 use Rattle.batch.specs.Batch.{answerTo, outputOf, count, ledger, answered, toldBatch}

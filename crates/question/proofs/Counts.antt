@@ -12,11 +12,11 @@ use lib.Dec.{eqb}
 use lib.IntN.{ℤ, pos, negsuc}
 use lib.ListN.{length}
 use borrow.Author.Tests.{eqb-true, not-false}
-use Rattle.descriptor.specs.Bits.{pick}
+use Rattle.bits.specs.Bits.{pick}
 use Rattle.descriptor.specs.Program.{Request, Outcome, reached, stopped, stop, run, reads, ends, All, nil, cons}
-use Rattle.descriptor.specs.declared.access.Access.{Access}
+use Rattle.access.specs.declared.Access.{Access}
 use Rattle.descriptor.specs.declared.entry.Fetch.{Fetch}
-use Rattle.descriptor.proofs.Tests.{by-pick, pick-true, pick-false}
+use Rattle.bits.proofs.Tests.{by-pick, pick-true, pick-false}
 use Rattle.descriptor.proofs.Tally.{Tally, Tight, AllThree}
 use Rattle.capture.specs.Capture.{memory}
 use Rattle.walk.specs.Walk.{Reading}
@@ -32,12 +32,12 @@ use Rattle.walk.specs.declared.stage.Root.the-variants.{Unusable, Usable}
 use Rattle.walk.proofs.Counts.{HasLevels, tight-access}
 use Rattle.registers.specs.Tcr
 use Rattle.registers.specs.Vtcr
-use Rattle.registers.specs.Settings.{stage1On, stage2On, settings}
-use Rattle.registers.specs.Roots.{fourK, inputSize, outputSize, start1, start2, levelsBelow, half1, root2, stage1, stage2}
+use Rattle.regime.specs.Settings.{stage1On, stage2On, settings}
+use Rattle.regime.specs.Roots.{fourK, inputSize, outputSize, start1, start2, levelsBelow, half1, root2, stage1, stage2}
 use Rattle.registers.specs.declared.El1.{El1}
 use Rattle.registers.specs.declared.El2.{El2}
-use Rattle.registers.proofs.Settings.{Sized, low-sized, high-sized}
-use Rattle.registers.proofs.Roots.{start1-is, start2-most, by-half1, by-root1At, by-root2, Sane, root2-sane}
+use Rattle.regime.proofs.Settings.{Sized, low-sized, high-sized}
+use Rattle.regime.proofs.Roots.{start1-is, start2-most, by-half1, by-root1At, by-root2, Sane, root2-sane}
 use Rattle.question.specs.Question.{Told, grounds, question, refusal, told, ask}
 use Rattle.question.specs.Counts.{levelsFrom, halfLevels, n1, n2, limit, Counted, Counts}
 use Rattle.question.proofs.Refusals.{refuse-some, refuse-none, none-holds}

@@ -5,7 +5,7 @@ use mathlib.Core.List.{List, _∷_, []}
 use Prim.Native.Nat.{ℕ}
 use lib.ListN.{length}
 use Rattle.descriptor.specs.Program.{Request, All, nil, cons}
-use Rattle.descriptor.specs.declared.access.Access.{Access}
+use Rattle.access.specs.declared.Access.{Access}
 use Rattle.descriptor.specs.declared.entry.Fetch.{Fetch}
 use Rattle.descriptor.proofs.Laws.{Same, frame, all-map}
 use Rattle.capture.specs.Capture.{memory}

@@ -8,7 +8,7 @@ use native.Mathlib.Omega.{arith}
 use lib.ListN.{length, set, length-append, length-map}
 use lib.Seq.{sets, length-sets}
 use mathlib.Core.Bool.{Bool, true, false}
-use Rattle.descriptor.specs.Bits.{pick}
+use Rattle.bits.specs.Bits.{pick}
 use Rattle.descriptor.specs.Program.{Request, Outcome, reached, stopped, Program, done, stop, note, ask, counted, bind, run, reads}
 use Rattle.descriptor.specs.declared.entry.Fetch.{Fetch}
 use Rattle.descriptor.specs.declared.entry.Fetch.the-variants.{Absent, Word}

@@ -6,7 +6,7 @@ use mathlib.Core.List.{List, [], _∷_}
 use mathlib.Core.Option.{Option, some, none}
 use Prim.Native.Nat.{ℕ}
 use native.Mathlib.Omega.{arith}
-use Rattle.descriptor.specs.Bits.{pick}
+use Rattle.bits.specs.Bits.{pick}
 use Rattle.descriptor.specs.Program.{All, nil, cons}
 use Rattle.walk.specs.declared.answer.Refusal.{Refusal}
 use Rattle.question.specs.Refusals.{Ground, refuse}

@@ -8,12 +8,12 @@ use lib.IntN.{ℤ, pos}
 use Rattle.walk.specs.Stages.{root1At}
 use Rattle.registers.specs.Tcr
 use Rattle.registers.specs.Vtcr
-use Rattle.registers.specs.Settings.{stage1On, settings}
-use Rattle.registers.specs.Roots.{fourK, inputSize, outputSize, start1, start2, levelsBelow, tableOf, half1, root2, stage1}
+use Rattle.regime.specs.Settings.{stage1On, settings}
+use Rattle.regime.specs.Roots.{fourK, inputSize, outputSize, start1, start2, levelsBelow, tableOf, half1, root2, stage1}
 use Rattle.registers.specs.declared.El1.{El1}
 use Rattle.registers.specs.declared.El2.{El2}
-use Rattle.registers.proofs.Settings.{Sized, low-sized, high-sized}
-use Rattle.registers.proofs.Roots.{start1-is, start2-most, start2-bits, by-half1, by-root1At, by-root2}
+use Rattle.regime.proofs.Settings.{Sized, low-sized, high-sized}
+use Rattle.regime.proofs.Roots.{start1-is, start2-most, start2-bits, by-half1, by-root1At, by-root2}
 use Rattle.question.specs.Ran.{Small, SmallRoot}
 use Rattle.question.proofs.Turns.{upper-small}
 

@@ -5,14 +5,14 @@ use mathlib.Core.Bool.{Bool, true, false, not, _&&_, _||_}
 use mathlib.Core.List.{List}
 use Prim.Native.Nat.{ℕ, suc, _+_, _-_, _*_, _/_, _%_, _^_}
 use lib.Dec.{ltb, eqb}
-use Rattle.descriptor.specs.Bits.{pick, bit, beyond}
+use Rattle.bits.specs.Bits.{pick, bit, beyond}
 use Rattle.descriptor.specs.Program.{Request, Outcome, reached, stopped, done, stop, bind}
 use Rattle.descriptor.specs.Entry.{nothing}
-use Rattle.descriptor.specs.declared.access.Access.{Access}
+use Rattle.access.specs.declared.Access.{Access}
 use Rattle.descriptor.specs.declared.entry.Fetch.{Fetch}
 use Rattle.descriptor.specs.declared.entry.FaultKind.{FaultKind}
 use Rattle.descriptor.specs.declared.entry.FaultKind.the-variants as F
-use Rattle.descriptor.proofs.Tests.{pick-false}
+use Rattle.bits.proofs.Tests.{pick-false}
 use Rattle.walk.specs.Walk.{fault, walk, walkFrom}
 use Rattle.walk.specs.Stages.{give, root2At, check2, translate2, place1, root1At, check1, flat, translate1, finish, access}
 use Rattle.walk.specs.declared.answer.Stage.the-variants.{One, Two}
@@ -24,8 +24,8 @@ use Rattle.walk.specs.declared.stage.Root.{Root}
 use Rattle.walk.specs.declared.stage.Root.the-variants.{Unusable, Usable}
 use Rattle.walk.specs.declared.stage.Reached.the-variants as R
 use Rattle.walk.specs.declared.stage.Stage1.{Stage1}
-use Rattle.descriptor.specs.Memory.{combine}
-use Rattle.descriptor.specs.declared.memory.Attributes.{Attributes}
+use Rattle.attributes.specs.Attributes.{combine}
+use Rattle.attributes.specs.declared.Attributes.{Attributes}
 use Rattle.walk.specs.declared.stage.Checked.{Checked}
 use Rattle.walk.specs.declared.stage.Checked.the-variants as C
 use Rattle.walk.specs.declared.stage.Walked.the-variants as W

@@ -10,10 +10,10 @@ use lib.Dec.{ltb, eqb}
 use lib.ListN.{length}
 use lib.Seq.{sets}
 use borrow.Author.Tests.{ltb-true, ltb-false, lt-ltb, le-ltb}
-use Rattle.descriptor.specs.Bits.{pick}
+use Rattle.bits.specs.Bits.{pick}
 use Rattle.descriptor.specs.Program.{Outcome, reads, run}
-use Rattle.descriptor.specs.Access.{listed}
-use Rattle.descriptor.specs.declared.access.Access.{Access}
+use Rattle.access.specs.Access.{listed}
+use Rattle.access.specs.declared.Access.{Access}
 use Rattle.capture.specs.Capture.{memory}
 use Rattle.walk.specs.Stages as Stages
 use Rattle.walk.specs.Answers as Answers
@@ -23,8 +23,8 @@ use Rattle.walk.specs.declared.answer.Stop.{Stop}
 use Rattle.walk.specs.declared.answer.Translation.{Translation}
 use Rattle.walk.specs.declared.answer.Answer.{Answer}
 use Rattle.walk.specs.declared.answer.Answer.the-variants.{Refused}
-use Rattle.registers.specs.Settings.{settings}
-use Rattle.registers.specs.Roots.{stage1, stage2}
+use Rattle.regime.specs.Settings.{settings}
+use Rattle.regime.specs.Roots.{stage1, stage2}
 use Rattle.registers.specs.declared.El1.{El1}
 use Rattle.registers.specs.declared.El2.{El2}
 use Rattle.question.specs.Refusals.{refuse}

@@ -3,8 +3,8 @@
 use mathlib.Core.Path.{_≡_, refl}
 use mathlib.Core.Bool.{Bool}
 use Prim.Native.Nat.{ℕ}
-use Rattle.descriptor.specs.Bits.{pick}
-use Rattle.descriptor.proofs.Tests.{by-pick}
+use Rattle.bits.specs.Bits.{pick}
+use Rattle.bits.proofs.Tests.{by-pick}
 
 pub not-55 : (b : Bool) → (pick {A = ℕ} b 55 63 ≡ 55 → ⊥) → pick {A = ℕ} b 55 63 ≡ 63
 not-55 b = by-pick (λ t. (t ≡ 55 → ⊥) → t ≡ 63) b 55 63 (λ _ h. absurd (h refl)) (λ _ h. refl)

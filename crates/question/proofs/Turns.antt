@@ -9,7 +9,7 @@ use native.Mathlib.Omega.{arith}
 use lib.ListN.{length, set, length-set}
 use mathlib.Core.Bool.{Bool, true, false, _&&_}
 use lib.Dec.{ltb, eqb}
-use Rattle.descriptor.specs.Bits.{pick, bit, field, upper, beyond}
+use Rattle.bits.specs.Bits.{pick, bit, field, upper, beyond}
 use Rattle.descriptor.specs.Program.{Request, Outcome, reached, stopped, done, stop, note, ask, bind}
 use Rattle.descriptor.specs.Entry.{shift, shape, contiguous, decodeAs, decode}
 use Rattle.descriptor.specs.declared.entry.Fetch.{Fetch}
@@ -18,7 +18,7 @@ use Rattle.descriptor.specs.declared.entry.Geometry.{Geometry}
 use Rattle.descriptor.specs.declared.entry.Shape.{Shape}
 use Rattle.descriptor.specs.declared.entry.Shape.the-variants as Shape
 use Rattle.descriptor.specs.declared.entry.FaultKind.the-variants.{Translation, AddressSize, AccessFlag}
-use Rattle.descriptor.proofs.Tests.{by-pick}
+use Rattle.bits.proofs.Tests.{by-pick}
 use Rattle.descriptor.specs.declared.entry.Entry.{Entry}
 use Rattle.descriptor.specs.declared.entry.Entry.the-variants as E
 use Rattle.descriptor.specs.declared.entry.Inherited.{Inherited}

@@ -7,17 +7,17 @@ use mathlib.Core.Option.{some, none}
 use Prim.Native.Nat.{ℕ, _+_, _-_, _*_, _≤_}
 use lib.IntN.{ℤ, pos, negsuc}
 use lib.ListN.{length}
-use Rattle.descriptor.specs.Bits.{pick}
+use Rattle.bits.specs.Bits.{pick}
 use Rattle.descriptor.specs.Program.{All}
-use Rattle.descriptor.specs.declared.access.Access.{Access}
+use Rattle.access.specs.declared.Access.{Access}
 use Rattle.walk.specs.Stages.{isHigh}
 use Rattle.walk.specs.declared.answer.Refusal.{Refusal}
 use Rattle.walk.specs.declared.answer.Translation.{Translation}
 use Rattle.walk.specs.declared.answer.Answer.the-variants.{Translated, Refused}
 use Rattle.registers.specs.Tcr
 use Rattle.registers.specs.Vtcr
-use Rattle.registers.specs.Settings.{stage1On, stage2On}
-use Rattle.registers.specs.Roots.{fourK, inputSize, outputSize, start1, start2, stage1}
+use Rattle.regime.specs.Settings.{stage1On, stage2On}
+use Rattle.regime.specs.Roots.{fourK, inputSize, outputSize, start1, start2, stage1}
 use Rattle.registers.specs.declared.El1.{El1}
 use Rattle.registers.specs.declared.El2.{El2}
 use Rattle.question.specs.Question.{Told, refusal, ask}

@@ -9,8 +9,8 @@ use lib.Dec.{ltb}
 use lib.ListN.{length}
 use lib.Seq.{sets}
 use Rattle.descriptor.specs.Program.{Request, stop, run, reads, ends}
-use Rattle.descriptor.specs.Access.{listed}
-use Rattle.descriptor.specs.declared.access.Access.{Access}
+use Rattle.access.specs.Access.{listed}
+use Rattle.access.specs.declared.Access.{Access}
 use Rattle.descriptor.specs.declared.entry.Fetch.{Fetch}
 use Rattle.capture.specs.Capture.{memory}
 use Rattle.walk.specs.Walk.{Reading}
@@ -21,8 +21,8 @@ use Rattle.walk.specs.declared.answer.Refusal.the-variants.{ShortLog, Unlisted}
 use Rattle.walk.specs.declared.answer.Stop.the-variants.{Refused}
 use Rattle.walk.specs.declared.answer.Translation.{Translation}
 use Rattle.walk.specs.declared.answer.Answer.{Answer}
-use Rattle.registers.specs.Settings.{settings}
-use Rattle.registers.specs.Roots.{stage1, stage2}
+use Rattle.regime.specs.Settings.{settings}
+use Rattle.regime.specs.Roots.{stage1, stage2}
 use Rattle.registers.specs.declared.El1.{El1}
 use Rattle.registers.specs.declared.El2.{El2}
 use Rattle.question.specs.Refusals.{Ground, refuse, highCapture, failing}

@@ -1,8 +1,7 @@
 // Both stages of an access.
 use crate::stage1;
 use crate::stage2;
-use descriptor::access::Access;
-use descriptor::memory;
+use access::Access;
 use walk::answer::Translation;
 use walk::stage::Checked;
 use walk::stage::Output;
@@ -49,7 +48,7 @@ fn finish(
                 Reach {
                     reached: Reached::To(Translation {
                         address: p.address,
-                        attributes: memory::combine(attributes, other),
+                        attributes: attributes::combine(attributes, other),
                         level1,
                         level2: p.level,
                     }),

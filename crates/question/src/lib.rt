@@ -1,10 +1,9 @@
 // One question: a capture, registers and an access in, an answer and a log out.
-use descriptor::access;
-use descriptor::access::Access;
+use access::Access;
 use registers::El1;
 use registers::El2;
-use registers::accepted;
-use registers::stages;
+use regime::accepted;
+use regime::stages;
 use walk::answer::Answer;
 use walk::answer::Refusal;
 use walk::answer::Stop;

@@ -4,13 +4,10 @@ use crate::stage2::Check;
 use crate::stage2::Walk;
 use crate::table;
 use crate::table::Turn;
-use descriptor::access;
-use descriptor::access::Access;
-use descriptor::bits;
+use access::Access;
 use descriptor::entry;
 use descriptor::entry::FaultKind;
-use descriptor::memory;
-use descriptor::memory::Decoded;
+use attributes::Decoded;
 use descriptor::permission;
 use walk::answer::Fault;
 use walk::answer::Open;
@@ -31,9 +28,9 @@ ghost use mathlib.Core.Bool.{Bool, _&&_};
 ghost use Prim.Native.Nat.{suc, _+_, _-_, _*_, _/_, _%_, _^_, _≤_};
 ghost use lib.Dec.{eqb, ltb};
 ghost use lib.ListN.{length};
-ghost use Rattle.descriptor.specs.Bits.{pick};
+ghost use Rattle.bits.specs.Bits.{pick};
 ghost use Rattle.descriptor.specs.Entry.{nothing};
-ghost use Rattle.descriptor.specs.Access as Accesses;
+ghost use Rattle.access.specs.Access as Accesses;
 ghost use Rattle.capture.specs.Capture.{memory as contents};
 ghost use Rattle.walk.specs.Walk as Walks;
 ghost use Rattle.walk.specs.Stages as Stages;
@@ -182,14 +179,14 @@ fn check1(s: Stage1, a: Access, l: Leaf) -> Checked
     let word = l.word;
     let shift = l.shift;
     let level = l.level;
-    match memory::stage1_attributes(mair, uncached1(s, a), word) {
+    match attributes::stage1_attributes(mair, uncached1(s, a), word) {
         Decoded::Unsettled => Checked::Stopped(Stop::Unsettled(Open {
             stage: Stage::One,
             level,
         })),
         Decoded::Settled(attributes) => {
             let kind = attributes.memory;
-            let device = memory::is_device(kind);
+            let device = attributes::is_device(kind);
             if misaligned1(a, device) {
                 return Checked::Stopped(Stop::Misaligned(Stage::One));
             }
@@ -250,9 +247,9 @@ fn flat(s: Stage1, a: Access) -> Checked
     let i = s.i;
     let input = a.address;
     if in_pamax(s, input) {
-        let attributes = memory::flat_attributes(dc, access::is_fetch(a), i);
+        let attributes = attributes::flat_attributes(dc, access::is_fetch(a), i);
         let kind = attributes.memory;
-        if misaligned1(a, memory::is_device(kind)) {
+        if misaligned1(a, attributes::is_device(kind)) {
             return Checked::Stopped(Stop::Misaligned(Stage::One));
         }
         Checked::Passed(Output {

@@ -1,13 +1,10 @@
 // Stage 2: its walk, the checks after it, and both together.
 use crate::table;
 use crate::table::Turn;
-use descriptor::access;
-use descriptor::access::Access;
-use descriptor::bits;
+use access::Access;
 use descriptor::entry;
 use descriptor::entry::FaultKind;
-use descriptor::memory;
-use descriptor::memory::Decoded;
+use attributes::Decoded;
 use descriptor::permission;
 use walk::answer::Fault;
 use walk::answer::Open;
@@ -27,7 +24,7 @@ ghost use Rattle.descriptor.specs.Program.{done};
 ghost use Rattle.descriptor.specs.Entry.{nothing};
 ghost use Rattle.capture.specs.Capture.{memory};
 ghost use mathlib.Core.Bool.{not, _&&_};
-ghost use Rattle.descriptor.specs.Access as Accesses;
+ghost use Rattle.access.specs.Access as Accesses;
 ghost use Rattle.walk.specs.Walk as Walks;
 ghost use Rattle.walk.specs.Stages as Stages;
 ghost use Rattle.question.specs.Ran.{Ran, walked, checked, Small, SmallRoot};
@@ -141,14 +138,14 @@ fn check2(s: Stage2, a: Access, onwalk: bool, ipa: u64, l: Leaf) -> Checked
     let word = l.word;
     let shift = l.shift;
     let level = l.level;
-    match memory::stage2_attributes(uncached2(s, a, onwalk), word) {
+    match attributes::stage2_attributes(uncached2(s, a, onwalk), word) {
         Decoded::Unsettled => Checked::Stopped(Stop::Unsettled(Open {
             stage: Stage::Two { ipa, onwalk },
             level,
         })),
         Decoded::Settled(attributes) => {
             let kind = attributes.memory;
-            let device = memory::is_device(kind);
+            let device = attributes::is_device(kind);
             if misaligned2(a, onwalk, device) {
                 return Checked::Stopped(Stop::Misaligned(Stage::Two { ipa, onwalk }));
             }

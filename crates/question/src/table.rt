@@ -1,5 +1,4 @@
 // One entry of a table, at either stage: read, logged and followed.
-use descriptor::bits;
 use descriptor::entry;
 use descriptor::entry::Entry;
 use descriptor::entry::Fetch;

@@ -3,7 +3,7 @@
 use mathlib.Core.Bool.{Bool}
 use Prim.Native.Nat.{ℕ, _/_, _%_, _^_}
 use lib.Dec.{eqb}
-use Rattle.descriptor.specs.Bits.{field, bit}
+use Rattle.bits.specs.Bits.{field, bit}
 use Rattle.registers.specs.declared.tcr.Tcr.{Tcr}
 
 abbrev pub t0sz : Tcr → ℕ

@@ -1,7 +1,7 @@
 -- Fields of VTCR_EL2 that 01 names.
 -- Assumes nothing.
 use Prim.Native.Nat.{ℕ, _/_, _%_, _^_}
-use Rattle.descriptor.specs.Bits.{field}
+use Rattle.bits.specs.Bits.{field}
 use Rattle.registers.specs.declared.vtcr.Vtcr.{Vtcr}
 
 abbrev pub t0sz : Vtcr → ℕ

@@ -4,11 +4,8 @@ use sctlr::Sctlr;
 use tcr::Tcr;
 use vtcr::Vtcr;
 
-pub mod accepted;
 pub mod hcr;
-pub mod level;
 pub mod sctlr;
-pub mod stages;
 pub mod tcr;
 pub mod vtcr;
 

@@ -6,20 +6,20 @@ use Prim.Native.Nat.{ℕ, suc, _+_, _-_, _*_, _/_, _%_, _^_, _<_}
 use native.Mathlib.Omega.{arith}
 use lib.Dec.{ltb, eqb}
 use lib.Pow.{pow-add}
-use Rattle.descriptor.specs.Bits.{pick, bit, upper, beyond}
+use Rattle.bits.specs.Bits.{pick, bit, upper, beyond}
 use Rattle.descriptor.specs.Program.{stage-1, stage-2, Request, done, stop, bind}
 use Rattle.descriptor.specs.Entry.{shift, shape, outputAddress, nothing}
-use Rattle.descriptor.specs.declared.access.Access.{Access}
+use Rattle.access.specs.declared.Access.{Access}
 use Rattle.descriptor.specs.declared.entry.Fetch.{Fetch}
 use Rattle.descriptor.specs.declared.entry.Fetch.the-variants.{Word}
 use Rattle.descriptor.specs.declared.entry.Geometry.{Geometry}
 use Rattle.descriptor.specs.declared.entry.Shape.{Shape}
 use Rattle.descriptor.specs.declared.entry.Shape.the-variants as Shape
 use Rattle.descriptor.specs.declared.entry.FaultKind.{FaultKind}
-use Rattle.descriptor.specs.declared.memory.Attributes.{Attributes}
-use Rattle.descriptor.specs.declared.memory.Decoded.{Decoded}
-use Rattle.descriptor.specs.declared.memory.Decoded.the-variants.{Settled, Unsettled}
-use Rattle.descriptor.proofs.Tests.{by-pick}
+use Rattle.attributes.specs.declared.Attributes.{Attributes}
+use Rattle.attributes.specs.declared.Decoded.{Decoded}
+use Rattle.attributes.specs.declared.Decoded.the-variants.{Settled, Unsettled}
+use Rattle.bits.proofs.Tests.{by-pick}
 use Rattle.descriptor.proofs.Holds.{Holds, on-done, on-stop, holds-bind, holds-pick}
 use Rattle.walk.specs.declared.answer.Stage.{Stage}
 use Rattle.walk.specs.declared.answer.Stage.the-variants.{One, Two}

@@ -7,16 +7,16 @@ use Prim.Native.Nat.{ℕ, zero, suc, _+_, _-_, _*_, _/_, _%_, _^_, zero-le}
 use native.Mathlib.Nat.{mul-one, zero-mul, add-zero}
 use native.Mathlib.Omega.{arith}
 use lib.Dec.{ltb, eqb}
-use Rattle.descriptor.specs.Bits.{pick, bit, beyond}
+use Rattle.bits.specs.Bits.{pick, bit, beyond}
 use Rattle.descriptor.specs.Program.{Request, Program, done, stop, note, bind, run, reads, ends, nil, cons}
 use Rattle.descriptor.specs.Entry.{decode, nothing}
-use Rattle.descriptor.specs.declared.access.Access.{Access}
+use Rattle.access.specs.declared.Access.{Access}
 use Rattle.descriptor.specs.declared.entry.Fetch.{Fetch}
 use Rattle.descriptor.specs.declared.entry.Geometry.{Geometry}
 use Rattle.descriptor.specs.declared.entry.Entry.{Entry}
 use Rattle.descriptor.specs.declared.entry.Entry.the-variants as E
 use Rattle.descriptor.specs.declared.entry.Inherited.{Inherited}
-use Rattle.descriptor.proofs.Tests.{by-pick}
+use Rattle.bits.proofs.Tests.{by-pick}
 use Rattle.descriptor.proofs.Tally.{AllThree, Tight, tight-stop, tight-done, tight-bind, tight-pick, tight-choice, tight-ask}
 use Rattle.walk.specs.declared.answer.Stage.{Stage}
 use Rattle.walk.specs.declared.answer.Stage.the-variants.{One, Two}

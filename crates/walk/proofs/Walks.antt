@@ -6,7 +6,7 @@ use Prim.Native.Nat.{ℕ, zero, suc, _+_, _-_, _*_, _/_, _%_, _^_, _<_}
 use native.Mathlib.Nat.{mod-lt}
 use lib.Dec.{ltb, eqb}
 use lib.Pow.{pow-pos}
-use Rattle.descriptor.specs.Bits.{pick, field, bit, upper, beyond}
+use Rattle.bits.specs.Bits.{pick, field, bit, upper, beyond}
 use Rattle.descriptor.specs.Program.{Request, done, stop}
 use Rattle.descriptor.specs.Entry.{shift, shape, decodeAs, nothing}
 use Rattle.descriptor.specs.declared.entry.Fetch.{Fetch}
@@ -16,7 +16,7 @@ use Rattle.descriptor.specs.declared.entry.Shape.{Shape}
 use Rattle.descriptor.specs.declared.entry.Shape.the-variants as Shape
 use Rattle.descriptor.specs.declared.entry.FaultKind.{FaultKind}
 use Rattle.descriptor.specs.declared.entry.Inherited.{Inherited}
-use Rattle.descriptor.proofs.Tests.{by-pick}
+use Rattle.bits.proofs.Tests.{by-pick}
 use Rattle.descriptor.proofs.Holds.{Holds, on-done, on-stop, on-note, on-ask, holds-bind}
 use Rattle.walk.specs.declared.answer.Stage.{Stage}
 use Rattle.walk.specs.declared.answer.Stop.{Stop}

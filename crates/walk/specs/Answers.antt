@@ -6,7 +6,7 @@ use Prim.Native.Nat.{ℕ}
 use Rattle.descriptor.specs.Program.{Outcome, reached, stopped}
 use Rattle.descriptor.specs.declared.entry.FaultKind.{FaultKind}
 use Rattle.descriptor.specs.declared.entry.FaultKind.the-variants as F
-use Rattle.descriptor.specs.declared.memory.Attributes.{Attributes}
+use Rattle.attributes.specs.declared.Attributes.{Attributes}
 use Rattle.walk.specs.declared.answer.Stage.{Stage}
 use Rattle.walk.specs.declared.answer.Stage.the-variants.{One, Two}
 use Rattle.walk.specs.declared.answer.Refusal.{Refusal}

@@ -3,17 +3,17 @@
 use mathlib.Core.Bool.{Bool, true, false, not, _&&_, _||_}
 use Prim.Native.Nat.{ℕ, suc, _+_, _-_, _/_, _%_, _^_}
 use lib.Dec.{eqb}
-use Rattle.descriptor.specs.Bits.{pick, bit, beyond}
+use Rattle.bits.specs.Bits.{pick, bit, beyond}
 use Rattle.descriptor.specs.Program.{done, stop, bind}
 use Rattle.descriptor.specs.Entry.{outputAddress}
-use Rattle.descriptor.specs.Access.{isFetch, unaligned}
-use Rattle.descriptor.specs.Memory.{isDevice, stage1Attributes, stage2Attributes, flatAttributes, combine}
+use Rattle.access.specs.Access.{isFetch, unaligned}
+use Rattle.attributes.specs.Attributes.{isDevice, stage1Attributes, stage2Attributes, flatAttributes, combine}
 use Rattle.descriptor.specs.Permission.{stage1Permits, stage2Permits}
-use Rattle.descriptor.specs.declared.access.Access.{Access}
+use Rattle.access.specs.declared.Access.{Access}
 use Rattle.descriptor.specs.declared.entry.FaultKind.the-variants as F
-use Rattle.descriptor.specs.declared.memory.Attributes.{Attributes}
-use Rattle.descriptor.specs.declared.memory.Decoded.{Decoded}
-use Rattle.descriptor.specs.declared.memory.Decoded.the-variants.{Settled, Unsettled}
+use Rattle.attributes.specs.declared.Attributes.{Attributes}
+use Rattle.attributes.specs.declared.Decoded.{Decoded}
+use Rattle.attributes.specs.declared.Decoded.the-variants.{Settled, Unsettled}
 use Rattle.walk.specs.declared.answer.Stage.{Stage}
 use Rattle.walk.specs.declared.answer.Stage.the-variants.{One, Two}
 use Rattle.walk.specs.declared.answer.Stop.{Stop}

@@ -3,7 +3,7 @@ use crate::answer::Translation;
 use descriptor::entry::FaultKind;
 use descriptor::entry::Geometry;
 use descriptor::entry::Inherited;
-use descriptor::memory::Attributes;
+use attributes::Attributes;
 
 // The first table of a walk: how many levels there are, itself included, and its 2 to the bits entries at base.
 pub struct Table {

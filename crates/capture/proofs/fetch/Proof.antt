@@ -6,7 +6,7 @@ use mathlib.Core.Path.{ap, _∙_}
 use Prim.Native.Nat.{_+_, _-_, _≤_, _<_}
 use lib.ListN.{length}
 use denote.Ref.{now}
-use Rattle.descriptor.specs.Bits.{pick}
+use Rattle.bits.specs.Bits.{pick}
 use Rattle.descriptor.specs.declared.entry.Fetch.the-variants.{Word}
 use Rattle.capture.specs.Capture.{within, memory}
 use Rattle.capture.proofs.Spelled.{eight}

@@ -4,7 +4,7 @@ use borrow.Author.Needs.{needs}
 use borrow.Author.Tests.{lt-ltb, le-ltb, eq-eqb, ne-eqb}
 use mathlib.Core.Path.{refl, sym, _∙_}
 use lib.ListN.{length}
-use Rattle.registers.specs.Roots.{stage1, stage2}
+use Rattle.regime.specs.Roots.{stage1, stage2}
 use Rattle.question.proofs.Counts.{counts}
 use Rattle.question.proofs.Framing.{framing}
 use Rattle.question.proofs.Small.{small1, small2}

@@ -1,6 +1,6 @@
 -- `entry::output_address` meets its contract: the two parts do not overlap, so the sum fits.
 -- Assumes nothing.
-use Rattle.descriptor.proofs.Shifts.{joined-fits}
+use Rattle.bits.proofs.Shifts.{joined-fits}
 use borrow.Author.Needs.{needs}
 use Rattle.descriptor.proofs.entry.output_address.Statement.{statement}
 use Rattle.descriptor.proofs.entry.output_address.Tie as tie

@@ -1,6 +1,6 @@
 -- `entry::shape_of` meets its contract.
 -- Assumes nothing.
-use Rattle.descriptor.proofs.Tests.{choices}
+use Rattle.bits.proofs.Tests.{choices}
 use Rattle.descriptor.specs.Entry.{shape}
 use borrow.Author.Needs.{needs}
 use Rattle.descriptor.proofs.entry.shape_of.Statement.{statement}

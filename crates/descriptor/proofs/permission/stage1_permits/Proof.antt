@@ -1,6 +1,6 @@
 -- `permission::stage1_permits` meets its contract.
 -- Assumes nothing.
-use Rattle.descriptor.proofs.Tests.{choices}
+use Rattle.bits.proofs.Tests.{choices}
 use Rattle.descriptor.specs.Permission.{stage1Permits}
 use borrow.Author.Needs.{needs}
 use Rattle.descriptor.proofs.permission.stage1_permits.Statement.{statement}

@@ -1,7 +1,7 @@
 -- `check1` meets its contract.
 -- Assumes nothing.
 use borrow.Author.Needs.{needs}
-use Rattle.descriptor.specs.Bits.{pick}
+use Rattle.bits.specs.Bits.{pick}
 use Rattle.walk.specs.Stages.{unless, settled, check1}
 use Rattle.question.proofs.stage1.check1.Statement.{statement}
 use Rattle.question.proofs.stage1.check1.Tie as tie

@@ -3,9 +3,9 @@
 use borrow.Author.Needs.{needs}
 use mathlib.Core.Path.{_≡_, ap, _∙_}
 use mathlib.Core.Bool.{Bool}
-use Rattle.descriptor.specs.Memory.{flatAttributes}
-use Rattle.descriptor.specs.declared.memory.Attributes.{Attributes}
-use Rattle.descriptor.specs.Bits.{pick}
+use Rattle.attributes.specs.Attributes.{flatAttributes}
+use Rattle.attributes.specs.declared.Attributes.{Attributes}
+use Rattle.bits.specs.Bits.{pick}
 use Rattle.walk.specs.Stages.{unless, flat}
 use Rattle.question.proofs.stage1.flat.Statement.{statement}
 use Rattle.question.proofs.stage1.flat.Tie as tie

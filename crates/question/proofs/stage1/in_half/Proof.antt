@@ -8,7 +8,7 @@ use native.Mathlib.Nat.{div-eq-of-lt, lt-of-lt-of-le}
 use lib.Dec.{eqb}
 use lib.Pow.{pow-mono}
 use borrow.Author.Tests.{eq-eqb}
-use Rattle.descriptor.specs.Bits.{pick}
+use Rattle.bits.specs.Bits.{pick}
 use Rattle.question.proofs.stage1.in_half.Statement.{statement}
 use Rattle.question.proofs.stage1.in_half.Tie as tie
 

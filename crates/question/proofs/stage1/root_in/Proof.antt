@@ -1,7 +1,7 @@
 -- `root_in` meets its contract.
 -- Assumes nothing.
 use borrow.Author.Needs.{needs}
-use Rattle.descriptor.specs.Bits.{pick}
+use Rattle.bits.specs.Bits.{pick}
 use Rattle.question.proofs.stage1.root_in.Statement.{statement}
 use Rattle.question.proofs.stage1.root_in.Tie as tie
 

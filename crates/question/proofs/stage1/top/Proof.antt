@@ -1,7 +1,7 @@
 -- `top` meets its contract.
 -- Assumes nothing.
 use borrow.Author.Needs.{needs}
-use Rattle.descriptor.specs.Bits.{pick}
+use Rattle.bits.specs.Bits.{pick}
 use Rattle.question.proofs.stage1.top.Statement.{statement}
 use Rattle.question.proofs.stage1.top.Tie as tie
 

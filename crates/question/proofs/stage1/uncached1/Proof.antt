@@ -1,7 +1,7 @@
 -- `uncached1` meets its contract.
 -- Assumes nothing.
 use borrow.Author.Needs.{needs}
-use Rattle.descriptor.specs.Bits.{pick}
+use Rattle.bits.specs.Bits.{pick}
 use Rattle.question.proofs.stage1.uncached1.Statement.{statement}
 use Rattle.question.proofs.stage1.uncached1.Tie as tie
 

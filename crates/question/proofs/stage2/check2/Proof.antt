@@ -1,7 +1,7 @@
 -- `check2` meets its contract.
 -- Assumes nothing.
 use borrow.Author.Needs.{needs}
-use Rattle.descriptor.specs.Bits.{pick}
+use Rattle.bits.specs.Bits.{pick}
 use Rattle.walk.specs.Stages.{unless, settled, check2}
 use Rattle.question.proofs.stage2.check2.Statement.{statement}
 use Rattle.question.proofs.stage2.check2.Tie as tie

@@ -1,7 +1,7 @@
 -- `uncached2` meets its contract.
 -- Assumes nothing.
 use borrow.Author.Needs.{needs}
-use Rattle.descriptor.specs.Bits.{pick}
+use Rattle.bits.specs.Bits.{pick}
 use Rattle.question.proofs.stage2.uncached2.Statement.{statement}
 use Rattle.question.proofs.stage2.uncached2.Tie as tie
 

@@ -1,0 +1,62 @@
+ghost use mathlib.Core.Path.{_≡_};
+ghost use Prim.Native.Nat.{_%_};
+ghost use Rattle.access.specs.Access as Accesses;
+
+// One access by a guest. The numbers are the caller's: kind 0 reads, 1 writes, 2 fetches; el is 0 or 1; size is in bytes.
+pub struct Access {
+    pub address: u64,
+    pub kind: u64,
+    pub el: u64,
+    pub size: u64,
+}
+
+pub fn is_read(a: Access) -> bool
+    ensures { λ r. ⌜ r ≡ Accesses.isRead a ⌝ }
+{
+    a.kind == 0
+}
+
+pub fn is_write(a: Access) -> bool
+    ensures { λ r. ⌜ r ≡ Accesses.isWrite a ⌝ }
+{
+    a.kind == 1
+}
+
+pub fn is_fetch(a: Access) -> bool
+    ensures { λ r. ⌜ r ≡ Accesses.isFetch a ⌝ }
+{
+    a.kind == 2
+}
+
+pub fn at_el0(a: Access) -> bool
+    ensures { λ r. ⌜ r ≡ Accesses.atEl0 a ⌝ }
+{
+    a.el == 0
+}
+
+fn listed_size(size: u64) -> bool
+    ensures { λ r. ⌜ r ≡ Accesses.listedSize size ⌝ }
+{
+    (size == 1) | (size == 2) | (size == 4) | (size == 8) | (size == 16)
+}
+
+// The numbers of a question are of those that it may hold.
+pub fn listed(kind: u64, el: u64, size: u64) -> bool
+    ensures { λ r. ⌜ r ≡ Accesses.listed kind el size ⌝ }
+{
+    (kind <= 2) & (el <= 1) & listed_size(size)
+}
+
+// What is left of x by n; by zero, x.
+fn remainder(x: u64, n: u64) -> u64
+    ensures { λ r. ⌜ r ≡ x % n ⌝ }
+{
+    if n == 0 { x } else { x % n }
+}
+
+// A data access that is not a multiple of its size.
+pub fn unaligned(a: Access) -> bool
+    ensures { λ r. ⌜ r ≡ Accesses.unaligned a ⌝ }
+{
+    !is_fetch(a) & (remainder(a.address, a.size) != 0)
+}

@@ -1,0 +1,55 @@
+// Fields of a word, by shifts and remainders. A shift of a word must be by less than 64, so each function tests its amount first.
+ghost use mathlib.Core.Path.{_≡_};
+ghost use Prim.Native.Nat.{_%_, _^_};
+ghost use Rattle.bits.specs.Bits as Bits;
+
+// Bit i of x is set.
+pub fn bit(x: u64, i: u64) -> bool
+    ensures { λ r. ⌜ r ≡ Bits.bit x i ⌝ }
+{
+    if i < 64 { (x >> i) % 2 == 1 } else { false }
+}
+
+// n bits of x, from bit low up.
+pub fn field(x: u64, low: u64, n: u64) -> u64
+    ensures { λ r. ⌜ r ≡ Bits.field x low n ⌝ }
+{
+    if low < 64 {
+        if n < 64 {
+            (x >> low) % (1 << n)
+        } else {
+            x >> low
+        }
+    } else {
+        0
+    }
+}
+
+// The bits of x below t.
+pub fn lower(x: u64, t: u64) -> u64
+    ensures { λ r. ⌜ r ≡ x % 2 ^ t ⌝ }
+{
+    if t < 64 { x % (1 << t) } else { x }
+}
+
+// Bits 47 down to low of x, in their places.
+pub fn upper(x: u64, low: u64) -> u64
+    ensures { λ r. ⌜ r ≡ Bits.upper x low ⌝ }
+{
+    if low < 48 {
+        x % 0x1_0000_0000_0000 >> low << low
+    } else {
+        0
+    }
+}
+
+// Some bit of x from low up to 47 is set.
+pub fn beyond(x: u64, low: u64) -> bool
+    ensures { λ r. ⌜ r ≡ Bits.beyond x low ⌝ }
+{
+    if low < 48 {
+        0 < x % 0x1_0000_0000_0000 >> low
+    } else {
+        false
+    }
+}

@@ -1,0 +1,113 @@
+-- From registers to the two stages: sizes, start levels and roots (01, Walk).
+-- Assumes nothing.
+use mathlib.Core.Bool.{Bool, _&&_}
+use Prim.Native.Nat.{ℕ, suc, _+_, _-_, _*_, _/_, _%_, _^_}
+use lib.Dec.{leb, eqb}
+use lib.IntN.{ℤ, pos, negsuc, _+ℤ_, _-ℤ_, _*ℤ_}
+use lib.Signed.{ltZ}
+use Rattle.bits.specs.Bits.{pick, upper, beyond}
+use Rattle.descriptor.specs.Entry.{shift}
+use Rattle.descriptor.specs.declared.entry.Geometry.{Geometry}
+use Rattle.descriptor.specs.declared.entry.FaultKind.the-variants.{Translation, AddressSize}
+use Rattle.walk.specs.declared.stage.Table.{Table}
+use Rattle.walk.specs.declared.stage.Root.{Root}
+use Rattle.walk.specs.declared.stage.Root.the-variants.{Unusable, Usable}
+use Rattle.walk.specs.declared.stage.Half.{Half}
+use Rattle.walk.specs.declared.stage.Stage1.{Stage1}
+use Rattle.walk.specs.declared.stage.Stage2.{Stage2}
+use Rattle.registers.specs.Tcr
+use Rattle.registers.specs.Vtcr
+use Rattle.registers.specs.Hcr
+use Rattle.registers.specs.Sctlr
+use Rattle.regime.specs.Settings.{stage1On, stage2On}
+use Rattle.registers.specs.declared.El1.{El1}
+use Rattle.registers.specs.declared.El2.{El2}
+
+-- ---- sizes and levels
+
+-- the output size of IPS or PS (01, Walk, output size)
+unfoldable pub outputSize : ℕ → ℕ
+outputSize code = pick (eqb code 0) 32 (pick (eqb code 1) 36 (pick (eqb code 2) 40 (pick (eqb code 3) 42 (pick (eqb code 4) 44 48))))
+
+-- the 4KB granule: 512 entries a table, blocks from level 1
+abbrev pub fourK : (input output : ℕ) → Geometry
+fourK input output = record { granule = 12; stride = 9; input = input; output = output; block = 2; contiguous = 34 }
+
+-- the input size of a size field
+abbrev pub inputSize : ℕ → ℕ
+inputSize tnsz = 64 - tnsz
+
+-- stage 1's start level (01, Walk): 4 less the strides that the input bits above the granule take, rounded up
+unfoldable pub start1 : Geometry → ℤ
+start1 g = pos 4 -ℤ pos ((g .input - g .granule + (g .stride - 1)) / g .stride)
+
+-- stage 2's start level, -1 for an SL0 of 3 (01, Walk)
+unfoldable pub start2 : (sl0 : ℕ) → ℤ
+start2 sl0 = pos 2 -ℤ pos sl0
+
+-- the size check (01, Walk): the bits of a root's index, below 1 where the start level is too high for the size
+unfoldable pub sizeCheck : Geometry → (start : ℤ) → ℤ
+sizeCheck g start = pos (g .input) -ℤ ((pos 3 -ℤ start) *ℤ pos (g .stride) +ℤ pos (g .granule))
+
+-- 3 less a level
+unfoldable pub levelsBelow : ℤ → ℕ
+levelsBelow (pos l) = 3 - l
+levelsBelow (negsuc l) = 4 + l
+
+-- ---- roots
+
+-- the root table at a base register, with n levels below it.
+-- 3 + the index bits is 01's b: a base is aligned to its table's size, however many entries it has.
+abbrev pub tableOf : Geometry → (n register : ℕ) → Table
+tableOf g n register =
+    record { geometry = g; levels = suc n; bits = g .input - shift g n; base = upper register (3 + (g .input - shift g n)) }
+
+-- no bit of a base register may lie beyond the output size (01, Walk, output size)
+unfoldable pub rootOf : Geometry → (n register : ℕ) → Root
+rootOf g n register = pick (beyond register (g .output)) (Unusable AddressSize 0) (Usable (tableOf g n register))
+
+-- a half of stage 1, by its size field, EPD and TTBR
+abbrev pub half1 : (ips tnsz : ℕ) (epd : Bool) (ttbr : ℕ) → Half
+half1 ips tnsz epd ttbr =
+    let g = fourK (inputSize tnsz) (outputSize ips) in
+    record { size = inputSize tnsz; root = pick epd (Unusable Translation 0) (rootOf g (levelsBelow (start1 g)) ttbr) }
+
+-- stage 2 (01, Walk) starts at no level below 0, at level 0 only where PAMax is over 42, and with 1 to 13 index bits
+unfoldable pub root2 : El2 → Root
+root2 r =
+    let g = fourK (inputSize (Vtcr.t0sz (r .vtcr))) (outputSize (Vtcr.ps (r .vtcr))) in
+    let start = start2 (Vtcr.sl0 (r .vtcr)) in
+    pick (ltZ start (pos 0)) (Unusable Translation 0)
+    (pick (ltZ start (pos 1) && leb (r .pamax) 42) (Unusable Translation 0)
+    (pick (ltZ (sizeCheck g start) (pos 1)) (Unusable Translation 0)
+    (pick (ltZ (pos 13) (sizeCheck g start)) (Unusable Translation 0)
+    (rootOf g (levelsBelow start) (r .vttbr)))))
+
+-- ---- the stages
+
+unfoldable pub stage1 : El2 → El1 → Stage1
+stage1 r g =
+    record {
+      on = stage1On r g;
+      pamax = r .pamax;
+      dc = Hcr.dc (r .hcr);
+      tbi0 = Tcr.tbi0 (g .tcr);
+      tbi1 = Tcr.tbi1 (g .tcr);
+      low = half1 (Tcr.ips (g .tcr)) (Tcr.t0sz (g .tcr)) (Tcr.epd0 (g .tcr)) (g .ttbr0);
+      high = half1 (Tcr.ips (g .tcr)) (Tcr.t1sz (g .tcr)) (Tcr.epd1 (g .tcr)) (g .ttbr1);
+      mair = g .mair;
+      c = Sctlr.c (g .sctlr);
+      i = Sctlr.i (g .sctlr);
+      wxn = Sctlr.wxn (g .sctlr);
+    }
+
+unfoldable pub stage2 : El2 → Stage2
+stage2 r =
+    record {
+      on = stage2On r;
+      size = inputSize (Vtcr.t0sz (r .vtcr));
+      root = root2 r;
+      cd = Hcr.cd (r .hcr);
+      id = Hcr.id (r .hcr);
+      ptw = Hcr.ptw (r .hcr);
+    }
