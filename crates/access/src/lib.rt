@@ -1,3 +1,4 @@
+// Accesses by a guest, and which numbers a question may hold.
 ghost use mathlib.Core.Path.{_≡_};
 ghost use Prim.Native.Nat.{_%_};
 ghost use Rattle.access.specs.Access as Accesses;

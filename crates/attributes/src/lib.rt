@@ -1,3 +1,4 @@
+// Memory attributes: decoding, combining, reporting.
 use bits::field;
 ghost use mathlib.Core.Path.{_≡_};
 ghost use mathlib.Core.Bool.{_&&_};

@@ -26,7 +26,7 @@ use Rattle.walk.specs.declared.stage.Root.{Root}
 use Rattle.walk.specs.declared.stage.Root.the-variants.{Unusable, Usable}
 use Rattle.walk.specs.declared.stage.Table.{Table}
 use Rattle.walk.proofs.Accesses.{Spot, Hit, Around, holds-access}
-use Rattle.regime.specs.Settings.{stage2On}
+use Rattle.settings.specs.Settings.{stage2On}
 use Rattle.regime.specs.Roots.{root2, stage1, stage2}
 use Rattle.registers.specs.declared.El1.{El1}
 use Rattle.registers.specs.declared.El2.{El2}

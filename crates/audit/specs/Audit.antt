@@ -19,7 +19,7 @@ use Rattle.walk.specs.declared.answer.Refusal.the-variants.{AuditLists, NoRoot}
 use Rattle.walk.specs.declared.stage.Root.{Root}
 use Rattle.walk.specs.declared.stage.Root.the-variants.{Unusable, Usable}
 use Rattle.walk.specs.declared.stage.Table.{Table}
-use Rattle.regime.specs.Settings.{stage2On, auditSettings}
+use Rattle.settings.specs.Settings.{stage2On, auditSettings}
 use Rattle.regime.specs.Roots.{root2}
 use Rattle.registers.specs.declared.El2.{El2}
 use Rattle.question.specs.Refusals.{Ground, refuse, highCapture, failing}

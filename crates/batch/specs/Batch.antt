@@ -15,7 +15,7 @@ use Rattle.walk.specs.declared.answer.Refusal.{Refusal}
 use Rattle.walk.specs.declared.answer.Refusal.the-variants.{BatchLists, Unlisted}
 use Rattle.walk.specs.declared.answer.Answer.{Answer}
 use Rattle.walk.specs.declared.answer.Answer.the-variants as A
-use Rattle.regime.specs.Settings.{settings}
+use Rattle.settings.specs.Settings.{settings}
 use Rattle.registers.specs.declared.El1.{El1}
 use Rattle.registers.specs.declared.El2.{El2}
 use Rattle.question.specs.Refusals.{Ground, refuse, highCapture, failing}

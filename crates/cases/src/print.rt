@@ -1,10 +1,10 @@
 // Answers as text.
-use descriptor::entry::FaultKind;
 use attributes::Attributes;
 use attributes::Cacheability;
 use attributes::DeviceType;
 use attributes::MemoryType;
 use attributes::Shareability;
+use descriptor::entry::FaultKind;
 use libc::STDOUT_FILENO;
 use walk::answer::Answer;
 use walk::answer::Fault;

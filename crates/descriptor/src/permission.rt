@@ -1,10 +1,10 @@
 // Permissions of a leaf's descriptor x, for each stage.
+use crate::entry::Inherited;
 use access::Access;
 use access::at_el0;
 use access::is_read;
 use access::is_write;
 use bits::bit;
-use crate::entry::Inherited;
 ghost use mathlib.Core.Path.{_≡_};
 ghost use mathlib.Core.Bool.{_&&_, _||_, not};
 ghost use Rattle.bits.specs.Bits as Bits;

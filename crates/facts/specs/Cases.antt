@@ -16,8 +16,8 @@ use Rattle.capture.specs.Sparse.{sparse}
 use Rattle.walk.specs.Answers.{Value, address, attributes, stage, level, level1, level2, on-walk, ipa, reads, item}
 use Rattle.registers.specs.declared.El1.{El1}
 use Rattle.registers.specs.declared.El2.{El2}
-use Rattle.regime.specs.Settings.{settings}
-use Rattle.regime.specs.Roots.{fourK, start2, sizeCheck}
+use Rattle.settings.specs.Settings.{settings}
+use Rattle.level.specs.Level.{fourK, start2, sizeCheck}
 use Rattle.question.specs.Question.{question, told}
 use Rattle.batch.specs.Batch.{Shared, toldBatch}
 use Rattle.batch.specs.Ledger.{ascii, line}

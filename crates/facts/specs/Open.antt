@@ -10,8 +10,9 @@ use Rattle.capture.specs.Sparse.{wordAt, byteAt, image, descriptorAt, sparse}
 use Rattle.walk.specs.Walk.{fetched, follow, walk, walkFrom}
 use Rattle.walk.specs.Stages.{unless, settled, give, check2, translate2, place1, check1, flat, translate1, finish, access}
 use Rattle.walk.specs.Answers.{answer, number, carries}
-use Rattle.regime.specs.Settings.{firstFailing, settings, auditSettings}
-use Rattle.regime.specs.Roots.{outputSize, start1, start2, sizeCheck, levelsBelow, rootOf, root2, stage1, stage2}
+use Rattle.settings.specs.Settings.{firstFailing, settings, auditSettings}
+use Rattle.level.specs.Level.{outputSize, start1, start2, sizeCheck, levelsBelow}
+use Rattle.regime.specs.Roots.{rootOf, root2, stage1, stage2}
 use Rattle.question.specs.Refusals.{refuse}
 use Rattle.question.specs.Question.{question, told}
 use Rattle.batch.specs.Batch.{answerTo, outputOf, count, ledger, answered, toldBatch}

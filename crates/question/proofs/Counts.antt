@@ -32,8 +32,9 @@ use Rattle.walk.specs.declared.stage.Root.the-variants.{Unusable, Usable}
 use Rattle.walk.proofs.Counts.{HasLevels, tight-access}
 use Rattle.registers.specs.Tcr
 use Rattle.registers.specs.Vtcr
-use Rattle.regime.specs.Settings.{stage1On, stage2On, settings}
-use Rattle.regime.specs.Roots.{fourK, inputSize, outputSize, start1, start2, levelsBelow, half1, root2, stage1, stage2}
+use Rattle.settings.specs.Settings.{stage1On, stage2On, settings}
+use Rattle.level.specs.Level.{fourK, inputSize, outputSize, start1, start2, levelsBelow}
+use Rattle.regime.specs.Roots.{half1, root2, stage1, stage2}
 use Rattle.registers.specs.declared.El1.{El1}
 use Rattle.registers.specs.declared.El2.{El2}
 use Rattle.regime.proofs.Settings.{Sized, low-sized, high-sized}

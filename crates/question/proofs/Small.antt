@@ -8,8 +8,9 @@ use lib.IntN.{ℤ, pos}
 use Rattle.walk.specs.Stages.{root1At}
 use Rattle.registers.specs.Tcr
 use Rattle.registers.specs.Vtcr
-use Rattle.regime.specs.Settings.{stage1On, settings}
-use Rattle.regime.specs.Roots.{fourK, inputSize, outputSize, start1, start2, levelsBelow, tableOf, half1, root2, stage1}
+use Rattle.settings.specs.Settings.{stage1On, settings}
+use Rattle.level.specs.Level.{fourK, inputSize, outputSize, start1, start2, levelsBelow}
+use Rattle.regime.specs.Roots.{tableOf, half1, root2, stage1}
 use Rattle.registers.specs.declared.El1.{El1}
 use Rattle.registers.specs.declared.El2.{El2}
 use Rattle.regime.proofs.Settings.{Sized, low-sized, high-sized}

@@ -23,7 +23,7 @@ use Rattle.walk.specs.declared.answer.Stop.{Stop}
 use Rattle.walk.specs.declared.answer.Translation.{Translation}
 use Rattle.walk.specs.declared.answer.Answer.{Answer}
 use Rattle.walk.specs.declared.answer.Answer.the-variants.{Refused}
-use Rattle.regime.specs.Settings.{settings}
+use Rattle.settings.specs.Settings.{settings}
 use Rattle.regime.specs.Roots.{stage1, stage2}
 use Rattle.registers.specs.declared.El1.{El1}
 use Rattle.registers.specs.declared.El2.{El2}

@@ -16,8 +16,9 @@ use Rattle.walk.specs.declared.answer.Translation.{Translation}
 use Rattle.walk.specs.declared.answer.Answer.the-variants.{Translated, Refused}
 use Rattle.registers.specs.Tcr
 use Rattle.registers.specs.Vtcr
-use Rattle.regime.specs.Settings.{stage1On, stage2On}
-use Rattle.regime.specs.Roots.{fourK, inputSize, outputSize, start1, start2, stage1}
+use Rattle.settings.specs.Settings.{stage1On, stage2On}
+use Rattle.level.specs.Level.{fourK, inputSize, outputSize, start1, start2}
+use Rattle.regime.specs.Roots.{stage1}
 use Rattle.registers.specs.declared.El1.{El1}
 use Rattle.registers.specs.declared.El2.{El2}
 use Rattle.question.specs.Question.{Told, refusal, ask}

@@ -2,8 +2,6 @@
 use access::Access;
 use registers::El1;
 use registers::El2;
-use regime::accepted;
-use regime::stages;
 use walk::answer::Answer;
 use walk::answer::Refusal;
 use walk::answer::Stop;
@@ -68,13 +66,13 @@ pub fn translate(bytes: &[u8], base: u64, r: El2, g: El1, a: Access, log: &mut [
     if high_capture(base, bytes.len() as u64) {
         return Answer::Refused(Refusal::HighCapture);
     }
-    let item = accepted::settings(r, g);
+    let item = settings::of_question(r, g);
     if item != 0 {
         return Answer::Refused(Refusal::Settings { item });
     }
     if access::listed(a.kind, a.el, a.size) {
-        let s1 = stages::stage1(r, g);
-        let s2 = stages::stage2(r);
+        let s1 = regime::stage1(r, g);
+        let s2 = regime::stage2(r);
         let end = both::access(bytes, base, s1, s2, a, log);
         let reads = end.count as u64;
         let reached = end.reached;

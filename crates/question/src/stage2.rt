@@ -2,9 +2,9 @@
 use crate::table;
 use crate::table::Turn;
 use access::Access;
+use attributes::Decoded;
 use descriptor::entry;
 use descriptor::entry::FaultKind;
-use attributes::Decoded;
 use descriptor::permission;
 use walk::answer::Fault;
 use walk::answer::Open;

@@ -21,7 +21,8 @@ use Rattle.walk.specs.declared.stage.Stage1.{Stage1}
 use Rattle.walk.proofs.Accesses.{Aligned, upper-aligned}
 use Rattle.registers.specs.Tcr
 use Rattle.registers.specs.Vtcr
-use Rattle.regime.specs.Roots.{fourK, inputSize, outputSize, start1, start2, sizeCheck, levelsBelow, tableOf, rootOf, half1, root2, stage1}
+use Rattle.level.specs.Level.{fourK, inputSize, outputSize, start1, start2, sizeCheck, levelsBelow}
+use Rattle.regime.specs.Roots.{tableOf, rootOf, half1, root2, stage1}
 use Rattle.registers.specs.declared.El1.{El1}
 use Rattle.registers.specs.declared.El2.{El2}
 use Rattle.regime.proofs.Settings.{Sized}

@@ -10,8 +10,8 @@ use borrow.Author.Tests.{leb-true}
 use Rattle.bits.specs.Bits.{pick}
 use Rattle.bits.proofs.Tests.{and-left, and-right}
 use Rattle.registers.specs.Tcr
-use Rattle.regime.specs.Settings.{stage1On, implies, listedSizeField, item6, item7, item8, item9, firstFailing, settings}
-use Rattle.regime.specs.Roots.{inputSize}
+use Rattle.settings.specs.Settings.{stage1On, implies, listedSizeField, item6, item7, item8, item9, firstFailing, settings}
+use Rattle.level.specs.Level.{inputSize}
 use Rattle.registers.specs.declared.El1.{El1}
 use Rattle.registers.specs.declared.El2.{El2}
 

@@ -1,9 +1,9 @@
--- From registers to the two stages: sizes, start levels and roots (01, Walk).
+-- From registers to the two stages: roots, and what else each stage goes by (01, Walk).
 -- Assumes nothing.
 use mathlib.Core.Bool.{Bool, _&&_}
-use Prim.Native.Nat.{ℕ, suc, _+_, _-_, _*_, _/_, _%_, _^_}
-use lib.Dec.{leb, eqb}
-use lib.IntN.{ℤ, pos, negsuc, _+ℤ_, _-ℤ_, _*ℤ_}
+use Prim.Native.Nat.{ℕ, suc, _+_, _-_}
+use lib.Dec.{leb}
+use lib.IntN.{pos}
 use lib.Signed.{ltZ}
 use Rattle.bits.specs.Bits.{pick, upper, beyond}
 use Rattle.descriptor.specs.Entry.{shift}
@@ -15,44 +15,14 @@ use Rattle.walk.specs.declared.stage.Root.the-variants.{Unusable, Usable}
 use Rattle.walk.specs.declared.stage.Half.{Half}
 use Rattle.walk.specs.declared.stage.Stage1.{Stage1}
 use Rattle.walk.specs.declared.stage.Stage2.{Stage2}
+use Rattle.level.specs.Level.{fourK, inputSize, outputSize, start1, start2, sizeCheck, levelsBelow}
 use Rattle.registers.specs.Tcr
 use Rattle.registers.specs.Vtcr
 use Rattle.registers.specs.Hcr
 use Rattle.registers.specs.Sctlr
-use Rattle.regime.specs.Settings.{stage1On, stage2On}
+use Rattle.settings.specs.Settings.{stage1On, stage2On}
 use Rattle.registers.specs.declared.El1.{El1}
 use Rattle.registers.specs.declared.El2.{El2}
-
--- ---- sizes and levels
-
--- the output size of IPS or PS (01, Walk, output size)
-unfoldable pub outputSize : ℕ → ℕ
-outputSize code = pick (eqb code 0) 32 (pick (eqb code 1) 36 (pick (eqb code 2) 40 (pick (eqb code 3) 42 (pick (eqb code 4) 44 48))))
-
--- the 4KB granule: 512 entries a table, blocks from level 1
-abbrev pub fourK : (input output : ℕ) → Geometry
-fourK input output = record { granule = 12; stride = 9; input = input; output = output; block = 2; contiguous = 34 }
-
--- the input size of a size field
-abbrev pub inputSize : ℕ → ℕ
-inputSize tnsz = 64 - tnsz
-
--- stage 1's start level (01, Walk): 4 less the strides that the input bits above the granule take, rounded up
-unfoldable pub start1 : Geometry → ℤ
-start1 g = pos 4 -ℤ pos ((g .input - g .granule + (g .stride - 1)) / g .stride)
-
--- stage 2's start level, -1 for an SL0 of 3 (01, Walk)
-unfoldable pub start2 : (sl0 : ℕ) → ℤ
-start2 sl0 = pos 2 -ℤ pos sl0
-
--- the size check (01, Walk): the bits of a root's index, below 1 where the start level is too high for the size
-unfoldable pub sizeCheck : Geometry → (start : ℤ) → ℤ
-sizeCheck g start = pos (g .input) -ℤ ((pos 3 -ℤ start) *ℤ pos (g .stride) +ℤ pos (g .granule))
-
--- 3 less a level
-unfoldable pub levelsBelow : ℤ → ℕ
-levelsBelow (pos l) = 3 - l
-levelsBelow (negsuc l) = 4 + l
 
 -- ---- roots
 

@@ -1,5 +1,5 @@
-use descriptor::entry::FaultKind;
 use attributes::Attributes;
+use descriptor::entry::FaultKind;
 
 // The stage of an answer. Stage 2 translates an IPA; on a walk, that of a stage 1 descriptor.
 pub enum Stage {

@@ -1,9 +1,9 @@
 use crate::answer::Stop;
 use crate::answer::Translation;
+use attributes::Attributes;
 use descriptor::entry::FaultKind;
 use descriptor::entry::Geometry;
 use descriptor::entry::Inherited;
-use attributes::Attributes;
 
 // The first table of a walk: how many levels there are, itself included, and its 2 to the bits entries at base.
 pub struct Table {

@@ -27,16 +27,16 @@ returns-2 c =
 returns-3 : tie.Need-returns-3
 returns-3 c =
     let z = c .before .before .before .before .before .before .before .args in (
-      rw (c .before .settings .ensures)
+      rw (c .before .of-question .ensures)
           (tells-refused _ _ _ _ _ _ _
-          (refused-12 (length (z .log .now)) (z .base) (length (z .bytes .now)) (z .r) (z .g) (z .a) (le-ltb _ _ (c .before .before .before .before .if1 .left)) (sym (c .before .before .before .high-capture .ensures) ∙ c .before .before .if2 .left) (ne-eqb _ _ (λ e. c .if3 .taken (c .before .settings .ensures ∙ e))))),
+          (refused-12 (length (z .log .now)) (z .base) (length (z .bytes .now)) (z .r) (z .g) (z .a) (le-ltb _ _ (c .before .before .before .before .if1 .left)) (sym (c .before .before .before .high-capture .ensures) ∙ c .before .before .if2 .left) (ne-eqb _ _ (λ e. c .if3 .taken (c .before .of-question .ensures ∙ e))))),
       (counts _ _ _ _ _ _, λ other. framing _ _ _ _ _ _ _),
     )
 
 access-requires : tie.Need-access-requires
 unfolding stage1 stage2
 access-requires c κs =
-    let accepted = sym (c .before .before .before .before .before .before .settings .ensures) ∙ c .before .before .before .before .before .if3 .left in (
+    let accepted = sym (c .before .before .before .before .before .before .of-question .ensures) ∙ c .before .before .before .before .before .if3 .left in (
       rw (c .before .before .stage1 .ensures) (λ on. small1 _ _ accepted on _),
       rw (c .before .stage2 .ensures) (small2 _),
       search needs,
@@ -48,7 +48,7 @@ returns-4 c =
     let x = c .before .before .before .access .ensures in (
       tells-ran _ _ _ _ _ _ _ _ _ _
           (unrefused (length (z .log .now)) (z .base) (length (z .bytes .now)) (z .r) (z .g) (z .a) (le-ltb _ _ (c .before .before .before .before .before .before .before .before .before .before .before .before .before .if1 .left)) (sym (c .before .before .before .before .before .before .before .before .before .before .before .before .high-capture .ensures) ∙ c .before .before .before .before .before .before .before .before .before .before .before .if2 .left)
-          (eq-eqb _ _ (sym (c .before .before .before .before .before .before .before .before .before .before .settings .ensures) ∙ c .before .before .before .before .before .before .before .before .before .if3 .left)) (sym (c .before .before .before .before .before .before .before .before .listed .ensures) ∙ c .before .before .before .before .before .before .before .if4 .taken))
+          (eq-eqb _ _ (sym (c .before .before .before .before .before .before .before .before .before .before .of-question .ensures) ∙ c .before .before .before .before .before .before .before .before .before .if3 .left)) (sym (c .before .before .before .before .before .before .before .before .listed .ensures) ∙ c .before .before .before .before .before .before .before .if4 .taken))
           (rw (c .before .before .before .before .before .before .stage1 .ensures, c .before .before .before .before .before .stage2 .ensures) at (x .0)) (c .answered .ensures),
       (counts _ _ _ _ _ _, λ other. framing _ _ _ _ _ _ _),
     )
@@ -58,7 +58,7 @@ returns-5 c =
     let z = c .before .before .before .before .before .before .before .before .before .args in (
       tells-refused _ _ _ _ _ _ _
           (refused-13 (length (z .log .now)) (z .base) (length (z .bytes .now)) (z .r) (z .g) (z .a) (le-ltb _ _ (c .before .before .before .before .before .before .if1 .left)) (sym (c .before .before .before .before .before .high-capture .ensures) ∙ c .before .before .before .before .if2 .left)
-          (eq-eqb _ _ (sym (c .before .before .before .settings .ensures) ∙ c .before .before .if3 .left)) (sym (c .before .listed .ensures) ∙ c .if4 .left)),
+          (eq-eqb _ _ (sym (c .before .before .before .of-question .ensures) ∙ c .before .before .if3 .left)) (sym (c .before .listed .ensures) ∙ c .if4 .left)),
       (counts _ _ _ _ _ _, λ other. framing _ _ _ _ _ _ _),
     )
 

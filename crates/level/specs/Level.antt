@@ -1,0 +1,36 @@
+-- Sizes and start levels (01, Walk).
+-- Assumes nothing.
+use Prim.Native.Nat.{ℕ, _+_, _-_, _/_}
+use lib.Dec.{eqb}
+use lib.IntN.{ℤ, pos, negsuc, _+ℤ_, _-ℤ_, _*ℤ_}
+use Rattle.bits.specs.Bits.{pick}
+use Rattle.descriptor.specs.declared.entry.Geometry.{Geometry}
+
+-- the output size of IPS or PS (01, Walk, output size)
+unfoldable pub outputSize : ℕ → ℕ
+outputSize code = pick (eqb code 0) 32 (pick (eqb code 1) 36 (pick (eqb code 2) 40 (pick (eqb code 3) 42 (pick (eqb code 4) 44 48))))
+
+-- the 4KB granule: 512 entries a table, blocks from level 1
+abbrev pub fourK : (input output : ℕ) → Geometry
+fourK input output = record { granule = 12; stride = 9; input = input; output = output; block = 2; contiguous = 34 }
+
+-- the input size of a size field
+abbrev pub inputSize : ℕ → ℕ
+inputSize tnsz = 64 - tnsz
+
+-- stage 1's start level (01, Walk): 4 less the strides that the input bits above the granule take, rounded up
+unfoldable pub start1 : Geometry → ℤ
+start1 g = pos 4 -ℤ pos ((g .input - g .granule + (g .stride - 1)) / g .stride)
+
+-- stage 2's start level, -1 for an SL0 of 3 (01, Walk)
+unfoldable pub start2 : (sl0 : ℕ) → ℤ
+start2 sl0 = pos 2 -ℤ pos sl0
+
+-- the size check (01, Walk): the bits of a root's index, below 1 where the start level is too high for the size
+unfoldable pub sizeCheck : Geometry → (start : ℤ) → ℤ
+sizeCheck g start = pos (g .input) -ℤ ((pos 3 -ℤ start) *ℤ pos (g .stride) +ℤ pos (g .granule))
+
+-- 3 less a level
+unfoldable pub levelsBelow : ℤ → ℕ
+levelsBelow (pos l) = 3 - l
+levelsBelow (negsuc l) = 4 + l

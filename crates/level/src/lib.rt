@@ -1,0 +1,69 @@
+// Sizes and start levels (01, Walk). A start level is signed: registers can ask for one below level 0.
+ghost use mathlib.Core.Path.{_≡_};
+ghost use Prim.Native.Nat.{ℕ, _+_, _-_, _/_, _%_, _≤_};
+ghost use Rattle.registers.specs.Vtcr as VtcrFields;
+ghost use Rattle.level.specs.Level as Level;
+use registers::vtcr::Vtcr;
+
+// The output size of IPS or PS. 6 and 7 are no codes.
+pub fn output_size(code: u64) -> u64
+    ensures { λ r. ⌜ r ≡ Level.outputSize code ⌝ }
+{
+    match code {
+        0 => 32,
+        1 => 36,
+        2 => 40,
+        3 => 42,
+        4 => 44,
+        _ => 48,
+    }
+}
+
+// Stage 2's start level, -1 for an SL0 of 3.
+pub fn start2(vtcr: Vtcr) -> i64
+    ensures { λ r. ⌜ r ≡ Level.start2 (VtcrFields.sl0 vtcr) ⌝ }
+{
+    2 - vtcr.sl0() as i64
+}
+
+// Stage 1's start level, by a size field of six bits. No output size counts.
+pub fn start1(tnsz: u64) -> i64
+    ensures { λ r. ⌜ ((output : ℕ) → r ≡ Level.start1 (Level.fourK (Level.inputSize (tnsz % 64)) output)) ⌝ }
+{
+    4 - strides(64 - tnsz % 64) as i64
+}
+
+// The strides that the input bits above the granule take, rounded up.
+fn strides(size: u64) -> u64
+    requires { ⌜ size ≤ 64 ⌝ }
+    ensures { λ r. ⌜ r ≡ (size - 12 + 8) / 9 ⌝ }
+{
+    (less(size, 12) + 8) / 9
+}
+
+// The bits of stage 2's root index, below 1 where the start level is too high for the size.
+pub fn size_check(vtcr: Vtcr) -> i64
+    ensures { λ r. ⌜ r ≡ Level.sizeCheck (Level.fourK (Level.inputSize (VtcrFields.t0sz vtcr)) (Level.outputSize (VtcrFields.ps vtcr))) (Level.start2 (VtcrFields.sl0 vtcr)) ⌝ }
+{
+    let size = (64 - vtcr.t0sz()) as i64;
+    let start = start2(vtcr);
+    size - ((3 - start) * 9 + 12)
+}
+
+// 3 less a level, and 0 past level 3.
+pub fn levels_below(start: i64) -> u64
+    ensures { λ r. ⌜ r ≡ Level.levelsBelow start ⌝ }
+{
+    if start < 0 {
+        4 + (-1 - start) as u64
+    } else {
+        less(3, start as u64)
+    }
+}
+
+// A difference, 0 where there is none.
+pub fn less(a: u64, b: u64) -> u64
+    ensures { λ r. ⌜ r ≡ a - b ⌝ }
+{
+    if b < a { a - b } else { 0 }
+}

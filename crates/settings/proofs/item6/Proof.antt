@@ -1,0 +1,6 @@
+-- `item6` meets its contract, by those of what it calls. Assumes nothing.
+use Rattle.settings.proofs.item6.Statement.{statement}
+use Rattle.settings.proofs.item6.Tie as tie
+
+pub item6-spec : {M : Type 1} → statement M
+item6-spec = tie.close (tie.spec (λ c κs. tt) (λ c κs. tt) (λ c κs. tt) (λ c κs. tt) (λ c κs. tt) (λ c. cc))
