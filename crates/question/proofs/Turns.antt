@@ -30,29 +30,35 @@ use Rattle.walk.specs.declared.stage.Leaf.{Leaf}
 use Rattle.walk.specs.declared.stage.Walked.{Walked}
 use Rattle.walk.specs.declared.stage.Walked.the-variants.{Ended, Stopped}
 use Rattle.question.specs.Ran.{Ran, walked}
-use Rattle.question.specs.Entered.{turnAt, Entered, gone, found}
+use Rattle.question.specs.Entered.{turnAt, endAt, Entered, gone, found}
+use Rattle.question.specs.declared.table.End.{End}
 use Rattle.question.specs.declared.table.Turn.{Turn}
 use Rattle.question.specs.declared.table.Turn.the-variants.{Down, Over}
 use Rattle.question.proofs.Ran.{ran-done, ran-stop, ran-note, ran-absent, ran-word, ran-then, ran-stopped}
 
--- what is left of a walk after a turn
-unfoldable resume : (ℕ → Inherited → Reading Leaf) → Turn → Reading Leaf
-resume deeper (Down t i) = deeper t i
-resume deeper (Over (Ended l)) = note (l .level) (done l)
-resume deeper (Over (Stopped e)) = stop e
+-- a walk that is over
+unfoldable over : Walked → Reading Leaf
+over (Ended l) = note (l .level) (done l)
+over (Stopped e) = stop e
 
-follow-turn : (g : Geometry) (s : Stage) (n x : ℕ) (h : Inherited) (deeper : ℕ → Inherited → Reading Leaf) (e : Entry) → follow g s n x h deeper e ≡ resume deeper (turnAt g s n x h e)
-unfolding follow resume turnAt
-follow-turn g s n x h deeper (E.Next t) = refl
-follow-turn g s n x h deeper E.Final = refl
-follow-turn g s n x h deeper (E.Fault kind) = refl
-follow-turn g s n x h deeper E.Unsettled = refl
+-- what is left of a walk after a turn at an entry
+unfoldable resume : Geometry → Stage → (n at : ℕ) → Inherited → (ℕ → Inherited → Reading Leaf) → Turn → Reading Leaf
+resume g s n at h deeper (Down t x) = deeper t (inheritAt s h x)
+resume g s n at h deeper (Over e) = over (endAt g s n at h e)
+
+follow-turn : (g : Geometry) (s : Stage) (n at x : ℕ) (h : Inherited) (deeper : ℕ → Inherited → Reading Leaf) (e : Entry) →
+    follow g s n x h deeper e ≡ resume g s n at h deeper (turnAt x e)
+unfolding follow resume turnAt endAt over
+follow-turn g s n at x h deeper (E.Next t) = refl
+follow-turn g s n at x h deeper E.Final = refl
+follow-turn g s n at x h deeper (E.Fault kind) = refl
+follow-turn g s n at x h deeper E.Unsettled = refl
 
 -- nothing is left
-ran-over : (m : Request → Fetch) (deeper : ℕ → Inherited → Reading Leaf) (w : Walked) (log : List ℕ) (count : ℕ) → Ran m (resume deeper (Over w)) log count (walked w) count log
-unfolding resume walked
-ran-over m deeper (Ended l) log count = ran-note m (ran-done m l log count)
-ran-over m deeper (Stopped e) log count = ran-stop m e log count
+ran-over : (m : Request → Fetch) (w : Walked) (log : List ℕ) (count : ℕ) → Ran m (over w) log count (walked w) count log
+unfolding over walked
+ran-over m (Ended l) log count = ran-note m (ran-done m l log count)
+ran-over m (Stopped e) log count = ran-stop m e log count
 
 module _ (m : Request → Fetch) (place : ℕ → Reading ℕ) (g : Geometry) (s : Stage) (input : ℕ) where
   -- a read by this stage
@@ -83,20 +89,21 @@ module _ (m : Request → Fetch) (place : ℕ → Reading ℕ) (g : Geometry) (s
       ran-stopped m _ (rw e at p)
 
   -- an entry that was entered, and what is left
-  entered : (n : ℕ) (h : Inherited) {at k end end₂ : ℕ} {turn : Turn} {log log₁ log₂ : List ℕ} {o : Outcome Stop Leaf} → Entered m g s n at h log k turn end log₁ →
-      Ran m (resume (λ t i. walk place g s input n (g .stride) t i) turn) log₁ end o end₂ log₂ → Ran m (here n at h) log k o end₂ log₂
-  unfolding fetched resume
-  entered n h (gone q t e l) r = ran-absent m q (rw (t, e, l) at r)
-  entered n h (found x q t e l) r = ran-word m q (rw follow-turn (rw (t, e, l) at r))
+  entered : (n : ℕ) (h : Inherited) {at k end end₂ : ℕ} {turn : Turn} {log log₁ log₂ : List ℕ} {o : Outcome Stop Leaf} → Entered m g n at log k turn end log₁ →
+      Ran m (resume g s n at h (λ t i. walk place g s input n (g .stride) t i) turn) log₁ end o end₂ log₂ → Ran m (here n at h) log k o end₂ log₂
+  unfolding fetched resume endAt over
+  entered n h (gone q t e l) r = ran-absent m (q (readerOf s)) (rw (t, e, l) at r)
+  entered n h {at} (found x q t e l) r = ran-word m (q (readerOf s)) (rw (follow-turn g s n at x h) (rw (t, e, l) at r))
 
-  pub entered-over : (n : ℕ) (h : Inherited) {at k end : ℕ} {turn : Turn} {log log₁ : List ℕ} (w : Walked) → Entered m g s n at h log k turn end log₁ → turn ≡ Over w →
-      Ran m (here n at h) log k (walked w) end log₁
-  entered-over n h w e t = entered n h e (rw t (ran-over m _ w _ _))
-
-  pub entered-down : (n : ℕ) (h : Inherited) {at k end end₂ t : ℕ} {i : Inherited} {turn : Turn} {log log₁ log₂ : List ℕ} {o : Outcome Stop Leaf} → Entered m g s n at h log k turn end log₁ → turn ≡ Down t i →
-      Ran m (walk place g s input n (g .stride) t i) log₁ end o end₂ log₂ → Ran m (here n at h) log k o end₂ log₂
+  pub entered-over : (n : ℕ) (h : Inherited) {at k end : ℕ} {turn : Turn} {log log₁ : List ℕ} (e : End) → Entered m g n at log k turn end log₁ → turn ≡ Over e →
+      Ran m (here n at h) log k (walked (endAt g s n at h e)) end log₁
   unfolding resume
-  entered-down n h e t r = entered n h e (rw t r)
+  entered-over n h e i t = entered n h i (rw t (ran-over m _ _ _))
+
+  pub entered-down : (n : ℕ) (h : Inherited) {at k end end₂ t x : ℕ} {turn : Turn} {log log₁ log₂ : List ℕ} {o : Outcome Stop Leaf} → Entered m g n at log k turn end log₁ → turn ≡ Down t x →
+      Ran m (walk place g s input n (g .stride) t (inheritAt s h x)) log₁ end o end₂ log₂ → Ran m (here n at h) log k o end₂ log₂
+  unfolding resume
+  entered-down n h i t r = entered n h i (rw t r)
 
 -- ---- what else an entered entry says
 
@@ -118,32 +125,36 @@ upper-small x low =
     omega arith
 
 -- a turn down is a table entry's
-turn-down : (g : Geometry) (s : Stage) (n x : ℕ) (h : Inherited) (t : ℕ) (i : Inherited) (e : Entry) → turnAt g s n x h e ≡ Down t i → (e ≡ E.Next t) × (i ≡ inheritAt s h x)
+turn-down : (x t y : ℕ) (e : Entry) → turnAt x e ≡ Down t y → e ≡ E.Next t
 unfolding turnAt
-turn-down g s n x h t i (E.Next table) q = (ap E.Next (let z : table ≡ t = cc in z), cc)
-turn-down g s n x h t i E.Final q = absurd (let z : _≡_ {A = ℕ} 0 1 = cc in omega arith)
-turn-down g s n x h t i (E.Fault kind) q = absurd (let z : _≡_ {A = ℕ} 0 1 = cc in omega arith)
-turn-down g s n x h t i E.Unsettled q = absurd (let z : _≡_ {A = ℕ} 0 1 = cc in omega arith)
+turn-down x t y (E.Next table) q = ap E.Next (let z : table ≡ t = cc in z)
+turn-down x t y E.Final q = absurd (let z : _≡_ {A = ℕ} 0 1 = cc in omega arith)
+turn-down x t y (E.Fault kind) q = absurd (let z : _≡_ {A = ℕ} 0 1 = cc in omega arith)
+turn-down x t y E.Unsettled q = absurd (let z : _≡_ {A = ℕ} 0 1 = cc in omega arith)
 
-module _ {m : Request → Fetch} {g : Geometry} {n at : ℕ} {h : Inherited} {log log₁ : List ℕ} {k end : ℕ} {turn : Turn} where
-  pub down-small : {s : Stage} {t : ℕ} {i : Inherited} → Entered m g s n at h log k turn end log₁ → turn ≡ Down t i → t < 2 ^ 48
-  down-small (gone q e f l) d = absurd (let z : _≡_ {A = ℕ} 0 1 = cc in omega arith)
-  down-small {s} {t} {i} (found x q e f l) d =
-      let z : t ≡ upper x (g .granule) = next-table g n x t (shape g n x) (turn-down g s n x h t i (decode g n x) (sym e ∙ d) .0) in
-      omega (arith, upper-small x (g .granule))
+module _ {m : Request → Fetch} {g : Geometry} {n at : ℕ} {log log₁ : List ℕ} {k end : ℕ} {turn : Turn} (i : Entered m g n at log k turn end log₁) where
+  pub down-small : {t x : ℕ} → turn ≡ Down t x → t < 2 ^ 48
+  down-small {t} {x} d = by-entered i
+    where
+      by-entered : Entered m g n at log k turn end log₁ → t < 2 ^ 48
+      by-entered (gone q e f l) = absurd (let z : _≡_ {A = ℕ} 0 1 = cc in omega arith)
+      by-entered (found y q e f l) =
+          let z : t ≡ upper y (g .granule) = next-table g n y t (shape g n y) (turn-down y t x (decode g n y) (sym e ∙ d)) in
+          omega (arith, upper-small y (g .granule))
 
-  -- stage 2 imposes nothing
-  pub down-two : {ipa : ℕ} {w : Bool} {t : ℕ} {i : Inherited} → Entered m g (Two ipa w) n at h log k turn end log₁ → turn ≡ Down t i → i ≡ h
-  down-two (gone q e f l) d = absurd (let z : _≡_ {A = ℕ} 0 1 = cc in omega arith)
-  down-two {ipa} {w} {t} {i} (found x q e f l) d = turn-down g (Two ipa w) n x h t i (decode g n x) (sym e ∙ d) .1
+  pub entered-end : end ≤ k + 1
+  entered-end = by-entered i
+    where
+      by-entered : Entered m g n at log k turn end log₁ → end ≤ k + 1
+      by-entered (gone q e f l) = omega arith
+      by-entered (found x q e f l) = omega arith
 
-  pub entered-end : {s : Stage} → Entered m g s n at h log k turn end log₁ → end ≤ k + 1
-  entered-end (gone q e f l) = omega arith
-  entered-end (found x q e f l) = omega arith
-
-  pub entered-length : {s : Stage} → Entered m g s n at h log k turn end log₁ → length log₁ ≡ length log
-  entered-length (gone q e f l) = ap length l
-  entered-length (found x q e f l) = ap length l ∙ length-set log k at
+  pub entered-length : length log₁ ≡ length log
+  entered-length = by-entered i
+    where
+      by-entered : Entered m g n at log k turn end log₁ → length log₁ ≡ length log
+      by-entered (gone q e f l) = ap length l
+      by-entered (found x q e f l) = ap length l ∙ length-set log k at
 
 -- ---- a loop over the levels
 
@@ -168,22 +179,22 @@ module _ {m : Request → Fetch} {place : ℕ → Reading ℕ} {g : Geometry} {s
     {log₀ : List ℕ} {count n j table₀ : ℕ} {h₀ : Inherited} {log : List ℕ} {k left bits table : ℕ} {h : Inherited}
     {at k₁ end : ℕ} {log₁ log₂ : List ℕ} {turn : Turn}
     (w : Walking m place g s input log₀ count n j table₀ h₀ log k left bits table h) (more : 0 < left)
-    (placed : Ran m (place (entryAddress g (left - 1) bits table input)) log k (reached at) k₁ log₁) (e : Entered m g s (left - 1) at h log₁ k₁ turn end log₂) where
+    (placed : Ran m (place (entryAddress g (left - 1) bits table input)) log k (reached at) k₁ log₁) (i : Entered m g (left - 1) at log₁ k₁ turn end log₂) where
   -- the walk is over
-  pub walking-over : (v : Walked) → turn ≡ Over v → Ran m (walk place g s input n j table₀ h₀) log₀ count (walked v) end log₂
-  walking-over v t = w .rest (turn-in m place g s input left bits table h more placed (entered-over m place g s input (left - 1) h v e t))
+  pub walking-over : (e : End) → turn ≡ Over e → Ran m (walk place g s input n j table₀ h₀) log₀ count (walked (endAt g s (left - 1) at h e)) end log₂
+  walking-over e t = w .rest (turn-in m place g s input left bits table h more placed (entered-over m place g s input (left - 1) h e i t))
 
   -- or one level down
-  pub walking-down : (t : ℕ) (i : Inherited) → turn ≡ Down t i → length log₁ ≡ length log → Walking m place g s input log₀ count n j table₀ h₀ log₂ end (left - 1) (g .stride) t i
-  walking-down t i d l =
+  pub walking-down : (t x : ℕ) → turn ≡ Down t x → length log₁ ≡ length log → Walking m place g s input log₀ count n j table₀ h₀ log₂ end (left - 1) (g .stride) t (inheritAt s h x)
+  walking-down t x d l =
       record {
         few = omega (arith, w .few);
         narrow = omega (arith, w .stride);
-        low = down-small e d;
+        low = down-small i d;
         granule = w .granule;
         stride = w .stride;
-        same = entered-length e ∙ l ∙ w .same;
-        rest = λ r. w .rest (turn-in m place g s input left bits table h more placed (entered-down m place g s input (left - 1) h e d r));
+        same = entered-length i ∙ l ∙ w .same;
+        rest = λ r. w .rest (turn-in m place g s input left bits table h more placed (entered-down m place g s input (left - 1) h i d r));
       }
 
 -- the walk is over where no level is left

@@ -112,20 +112,20 @@ fn walk1(
                 };
             }
             Located::At(at) => {
-                let entered = table::enter(bytes, base, g, Stage::One, left, at, h, log, k);
+                let entered = table::enter(bytes, base, g, left, at, log, k);
                 k = entered.count;
                 let turn = entered.turn;
                 match turn {
-                    Turn::Over(walked) => {
-                        return Walk { walked, count: k };
+                    Turn::Over(end) => {
+                        return Walk {
+                            walked: table::end_at(g, Stage::One, left, at, h, end),
+                            count: k,
+                        };
                     }
-                    Turn::Down {
-                        table: next,
-                        inherited,
-                    } => {
+                    Turn::Down { table: next, word } => {
                         table = next;
                         bits = stride;
-                        h = inherited;
+                        h = entry::inherit(h, word);
                     }
                 }
             }

@@ -57,26 +57,19 @@ pub(crate) fn walk2(
     while 0 < left {
         left -= 1;
         let at = table::entry_address(g, left, bits, table, ipa);
-        let entered = table::enter(
-            bytes,
-            base,
-            g,
-            Stage::Two { ipa, onwalk },
-            left,
-            at,
-            free,
-            log,
-            k,
-        );
+        let entered = table::enter(bytes, base, g, left, at, log, k);
         k = entered.count;
         let turn = entered.turn;
         match turn {
-            Turn::Over(walked) => {
-                return Walk { walked, count: k };
+            Turn::Over(end) => {
+                return Walk {
+                    walked: table::end_at(g, Stage::Two { ipa, onwalk }, left, at, free, end),
+                    count: k,
+                };
             }
             Turn::Down {
                 table: next,
-                inherited: _,
+                word: _,
             } => {
                 table = next;
                 bits = stride;

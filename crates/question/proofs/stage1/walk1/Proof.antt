@@ -48,31 +48,36 @@ returns c =
 enter-requires : tie.Need-enter-requires Inv-loop μ-loop
 enter-requires c κs =
     let p = c .before .before .before .before .before .before in
-    let l = p .before .before .before .before in (
-      omega (arith, l .loop .inv .0 .few),
-      l .loop .inv .0 .granule,
-      l .loop .inv .0 .stride,
-      omega (arith, p .place1 .ensures .1, l .loop .inv .1, l .loop .inv .0 .same, ran-length (p .place1 .ensures .0), l .before .before .before .before .before .pre .2),
-    )
+    let l = p .before .before .before .before in
+    omega (arith, p .place1 .ensures .1, l .loop .inv .1, l .loop .inv .0 .same, ran-length (p .place1 .ensures .0), l .before .before .before .before .before .pre .2)
+
+end-at-requires : tie.Need-end-at-requires Inv-loop μ-loop
+end-at-requires c κs =
+    let w = c .before .before .before .before .before .before .before .before .before .before .before .before .before .before .before .before .loop .inv .0 in
+    (omega (arith, w .few), w .granule, w .stride)
 
 returns-2 : tie.Need-returns-2 Inv-loop μ-loop
 unfolding located
 returns-2 c =
-    let e = c .before .before .before .before .before in
+    let e = c .before .before .before .before .before .before in
     let p = e .before .before .before .before .before .before .before in
     let l = p .before .before .before .before in (
-      walking-over (l .loop .inv .0) (p .before .before .before .loop-test .taken) (rw (e .before .before .before .located2 .given .1, p .before .before .entry-address .ensures) at (p .place1 .ensures .0)) (e .enter .ensures) _ (c .before .turn .given .1),
+      rw (c .end-at .ensures)
+          (walking-over (l .loop .inv .0) (p .before .before .before .loop-test .taken)
+          (rw (e .before .before .before .located2 .given .1, p .before .before .entry-address .ensures) at (p .place1 .ensures .0)) (e .enter .ensures) _ (c .before .before .turn .given .1)),
       omega (arith, entered-end (e .enter .ensures), p .place1 .ensures .1, l .loop .inv .1),
     )
 
 loop-again : tie.Need-loop-again Inv-loop μ-loop
 unfolding located
 loop-again c =
-    let e = c .before .before .before .before .before in
+    let e = c .before .before .before .before .before .before in
     let p = e .before .before .before .before .before .before .before in
     let l = p .before .before .before .before in (
-      walking-down (l .loop .inv .0) (p .before .before .before .loop-test .taken) (rw (e .before .before .before .located2 .given .1, p .before .before .entry-address .ensures) at (p .place1 .ensures .0)) (e .enter .ensures) _ _ (c .before .turn2 .given .1)
-          (ran-length (p .place1 .ensures .0)),
+      rw (c .inherit .ensures)
+          (walking-down (l .loop .inv .0) (p .before .before .before .loop-test .taken)
+          (rw (e .before .before .before .located2 .given .1, p .before .before .entry-address .ensures) at (p .place1 .ensures .0)) (e .enter .ensures) _ _ (c .before .before .turn2 .given .1)
+          (ran-length (p .place1 .ensures .0))),
       omega (arith, entered-end (e .enter .ensures), p .place1 .ensures .1, l .loop .inv .1),
     )
 
@@ -97,9 +102,11 @@ walk1-spec =
     (λ c. search needs)
     enter-requires
     (λ c. search needs)
+    end-at-requires
     (λ c. search needs)
     returns-2
     (λ c. search needs)
+    (λ c κs. search needs)
     (λ c. search needs)
     loop-again
     (λ c. search needs)

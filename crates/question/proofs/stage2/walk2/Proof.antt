@@ -1,3 +1,5 @@
+-- `walk2` meets its contract: whatever finishes the walk from a level finishes the whole.
+-- Assumes nothing.
 use borrow.Author.Needs.{needs}
 use mathlib.Core.Path.{_≡_, refl}
 use Prim.Native.Nat.{_+_, _-_, _≤_, _<_}
@@ -9,12 +11,9 @@ use Rattle.capture.specs.Capture.{memory}
 use Rattle.walk.specs.declared.answer.Stage.the-variants.{Two}
 use Rattle.question.specs.Ran.{walked}
 use Rattle.question.proofs.Ran.{ran-done}
-use Rattle.question.proofs.Turns.{Walking, entered-end, down-two, walking-over, walking-down, walking-done}
+use Rattle.question.proofs.Turns.{Walking, entered-end, walking-over, walking-down, walking-done}
 use Rattle.question.proofs.stage2.walk2.Statement.{statement}
 use Rattle.question.proofs.stage2.walk2.Tie as tie
-use Rattle.question.proofs.stage2.walk2.Reads as reads
-use Rattle.question.proofs.stage2.walk2.Lts as lts
-use Rattle.question.proofs.table.enter.Reads as enter-reads
 
 abbrev Inv-loop : tie.InvT-loop
 Inv-loop bytes base ipa onwalk log₀ count g stride free left₀ bits₀ table₀ k₀ log left bits table k =
@@ -22,9 +21,6 @@ Inv-loop bytes base ipa onwalk log₀ count g stride free left₀ bits₀ table�
 
 abbrev μ-loop : tie.MeasureT-loop
 μ-loop bytes base ipa onwalk log₀ count g stride free left₀ bits₀ table₀ k₀ log left bits table k = left
-
-nothing-requires : tie.Need-nothing-requires Inv-loop μ-loop
-nothing-requires c κs = search needs
 
 loop-holds : tie.Need-loop-holds Inv-loop μ-loop
 loop-holds c = (record { few = search needs; narrow = search needs; low = search needs; granule = search needs; stride = search needs; same = refl; rest = λ r. r }, search needs)
@@ -34,25 +30,27 @@ entry-address-requires c κs =
     let w = c .before .loop .inv .0 in
     (omega (arith, w .few), w .granule, w .stride, w .narrow, w .low)
 
-same-length : tie.Need-same-length Inv-loop μ-loop
-same-length c = search needs
+end-at-requires : tie.Need-end-at-requires Inv-loop μ-loop
+end-at-requires c κs =
+    let w = c .before .before .before .before .before .before .before .before .before .loop .inv .0 in
+    (omega (arith, w .few), w .granule, w .stride)
 
 returns : tie.Need-returns Inv-loop μ-loop
 returns c =
-    let e = c .before .before .before .before .before in
+    let e = c .before .before .before .before .before .before in
     let l = e .before .before .before .before in (
-      walking-over (l .loop .inv .0) (e .before .before .before .loop-test .taken) (ran-done _ _ _ _)
-          (rw (l .before .nothing .ensures, e .before .before .entry-address .ensures) at (e .enter .ensures)) _ (c .before .turn .given .1),
+      rw (c .end-at .ensures, l .before .nothing .ensures, e .before .before .entry-address .ensures)
+          (walking-over (l .loop .inv .0) (e .before .before .before .loop-test .taken) (ran-done _ _ _ _)
+          (rw (e .before .before .entry-address .ensures) at (e .enter .ensures)) _ (c .before .before .turn .given .1)),
       omega (arith, entered-end (e .enter .ensures), l .loop .inv .1),
     )
 
 loop-again : tie.Need-loop-again Inv-loop μ-loop
 loop-again c =
     let e = c .before .before .before .before .before in
-    let l = e .before .before .before .before in
-    let entered = rw (l .before .nothing .ensures, e .before .before .entry-address .ensures) at (e .enter .ensures) in (
-      rw (down-two entered (c .before .turn2 .given .1)) at
-          (walking-down (l .loop .inv .0) (e .before .before .before .loop-test .taken) (ran-done _ _ _ _) entered _ _ (c .before .turn2 .given .1) refl),
+    let l = e .before .before .before .before in (
+      walking-down (l .loop .inv .0) (e .before .before .before .loop-test .taken) (ran-done _ _ _ _)
+          (rw (e .before .before .entry-address .ensures) at (e .enter .ensures)) _ _ (c .before .turn2 .given .1) refl,
       omega (arith, entered-end (e .enter .ensures), l .loop .inv .1),
     )
 
@@ -66,13 +64,14 @@ walk2-spec =
     (tie.spec
     Inv-loop
     μ-loop
-    nothing-requires
+    (λ c κs. search needs)
     loop-holds
     (λ c. search needs)
     entry-address-requires
     (λ c κs. search needs)
     (λ c. search needs)
-    same-length
+    end-at-requires
+    (λ c. search needs)
     returns
     (λ c. search needs)
     (λ c. search needs)

@@ -1,11 +1,8 @@
 -- `turn_at` meets its contract, by what the entry says.
 -- Assumes nothing.
 use borrow.Author.Needs.{needs}
-use mathlib.Core.Path.{sym, ap, _∙_}
-use native.Mathlib.Nat.{mul-le-mul}
-use native.Mathlib.Omega.{arith}
+use mathlib.Core.Path.{sym, _∙_}
 use Rattle.question.specs.Entered.{turnAt}
-use Rattle.question.specs.declared.table.Turn.the-variants.{Down}
 use Rattle.question.proofs.table.turn_at.Statement.{statement}
 use Rattle.question.proofs.table.turn_at.Tie as tie
 
@@ -16,16 +13,10 @@ turn-at-spec =
     (tie.spec
     (λ c κs. search needs)
     (λ c. search needs)
-    (λ c κs. search needs)
-    (λ c. search needs)
-    (λ c. let p = c .before .before .before .pre in omega (arith, mul-le-mul (p .2) (p .0)))
-    (λ c. let p = c .before .before .before .pre in omega (arith, mul-le-mul (p .2) (p .0)))
     (λ c. search needs)
     (λ c. search needs)
     (λ c. search needs)
-    (λ c. search needs)
-    (λ c. search needs)
-    (λ c. rw (sym (c .before .before .before .before .decode .ensures) ∙ c .before .before .table .given .1, c .inherit-at .ensures))
+    (λ c. rw (sym (c .before .before .before .decode .ensures) ∙ c .before .table .given .1))
     (λ c. rw (sym (c .before .before .decode .ensures) ∙ c .enum-told .given .1))
     (λ c. rw (sym (c .before .before .before .decode .ensures) ∙ c .before .kind .given .1))
     (λ c. rw (sym (c .before .before .decode .ensures) ∙ c .enum-told2 .given .1)))
