@@ -8,7 +8,7 @@ use Rattle.descriptor.specs.Permission.{stage1Permits, stage2Permits}
 use Rattle.capture.specs.Capture.{little, within, memory}
 use Rattle.capture.specs.Sparse.{wordAt, byteAt, image, descriptorAt, sparse}
 use Rattle.walk.specs.Walk.{fetched, follow, walk, walkFrom}
-use Rattle.walk.specs.Stages.{unless, settled, give, check2, translate2, place1, check1, flat, translate1, finish, access}
+use Rattle.walk.specs.Stages.{unless, settled, permitted, give, check2, translate2, place1, check1, flat, translate1, finish, access}
 use Rattle.walk.specs.Answers.{answer, number, carries}
 use Rattle.settings.specs.Settings.{firstFailing, settings, auditSettings}
 use Rattle.level.specs.Level.{outputSize, start1, start2, sizeCheck, levelsBelow}
@@ -21,5 +21,5 @@ use Rattle.audit.specs.Lists.{zip, all, ascends, grantFits, grantBefore, tableF
 use Rattle.audit.specs.Audit.{orElse, granted, touches, isListed, eachEntry, missing, examineAs, examine, auditTable, auditListed, auditFrom, auditOver}
 
 unfoldable pub opened : Unit {0}
-unfolding pick bind run reads ends shape decodeAs deviceOf mairNibble stage2Bits shareabilityOf isDevice isNonCacheable reported normal mairByte stage2Codes flatAttributes deviceRank cacheRank shareRank combineMemory stage1Permits stage2Permits little within memory wordAt byteAt image descriptorAt sparse fetched follow walk walkFrom unless settled give check2 translate2 place1 check1 flat translate1 finish access answer number carries firstFailing settings auditSettings outputSize start1 start2 sizeCheck levelsBelow rootOf root2 stage1 stage2 refuse question told answerTo outputOf count ledger answered toldBatch ascii digits decimal line zip all ascends grantFits grantBefore tableFits tableBefore wellFormed orElse granted touches isListed eachEntry missing examineAs examine auditTable auditListed auditFrom auditOver
+unfolding pick bind run reads ends shape decodeAs deviceOf mairNibble stage2Bits shareabilityOf isDevice isNonCacheable reported normal mairByte stage2Codes flatAttributes deviceRank cacheRank shareRank combineMemory stage1Permits stage2Permits little within memory wordAt byteAt image descriptorAt sparse fetched follow walk walkFrom unless settled permitted give check2 translate2 place1 check1 flat translate1 finish access answer number carries firstFailing settings auditSettings outputSize start1 start2 sizeCheck levelsBelow rootOf root2 stage1 stage2 refuse question told answerTo outputOf count ledger answered toldBatch ascii digits decimal line zip all ascends grantFits grantBefore tableFits tableBefore wellFormed orElse granted touches isListed eachEntry missing examineAs examine auditTable auditListed auditFrom auditOver
 opened = tt

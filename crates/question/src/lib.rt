@@ -18,6 +18,7 @@ ghost use Rattle.question.specs.Counts.{Counts};
 ghost use Rattle.question.specs.Framing.{Framing};
 
 mod both;
+mod check;
 mod stage1;
 mod stage2;
 mod table;

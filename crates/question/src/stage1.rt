@@ -1,4 +1,5 @@
 // Stage 1: the root for an address, its walk under stage 2, the checks after it, and all together.
+use crate::check;
 use crate::stage2;
 use crate::stage2::Check;
 use crate::stage2::Walk;
@@ -150,58 +151,29 @@ fn uncached1(s: Stage1, a: Access) -> bool
     if access::is_fetch(a) { !i } else { !c }
 }
 
-fn misaligned1(a: Access, device: bool) -> bool
-    ensures { λ r. ⌜ r ≡ (device && Accesses.unaligned a) ⌝ }
-{
-    if device { access::unaligned(a) } else { false }
-}
-
 // Permission, then a fetch from Device memory.
 fn denied1(s: Stage1, a: Access, device: bool, l: Leaf) -> bool
     ensures { λ r. ⌜ r ≡ Stages.denied1 s a device l ⌝ }
 {
-    let wxn = s.wxn;
     let inherited = l.inherited;
-    let word = l.word;
-    if permission::stage1_permits(wxn, a, inherited, word) {
-        if device { access::is_fetch(a) } else { false }
-    } else {
-        true
-    }
+    !permission::stage1_permits(s.wxn, a, inherited, l.word) | device & access::is_fetch(a)
 }
 
-// The checks after the walk, in their order.
+// The checks after the walk.
 fn check1(s: Stage1, a: Access, l: Leaf) -> Checked
     ensures { λ r. ⌜ r ≡ Stages.check1 s a l ⌝ }
 {
-    let mair = s.mair;
-    let input = a.address;
     let word = l.word;
-    let shift = l.shift;
     let level = l.level;
-    match attributes::stage1_attributes(mair, uncached1(s, a), word) {
-        Decoded::Unsettled => Checked::Stopped(Stop::Unsettled(Open {
-            stage: Stage::One,
-            level,
-        })),
+    let stage = Stage::One;
+    match attributes::stage1_attributes(s.mair, uncached1(s, a), word) {
+        Decoded::Unsettled => Checked::Stopped(Stop::Unsettled(Open { stage, level })),
         Decoded::Settled(attributes) => {
             let kind = attributes.memory;
             let device = attributes::is_device(kind);
-            if misaligned1(a, device) {
-                return Checked::Stopped(Stop::Misaligned(Stage::One));
-            }
-            if denied1(s, a, device, l) {
-                return Checked::Stopped(Stop::Fault(Fault {
-                    kind: FaultKind::Permission,
-                    stage: Stage::One,
-                    level,
-                }));
-            }
-            Checked::Passed(Output {
-                address: entry::output_address(word, shift, input),
-                attributes,
-                level,
-            })
+            let misaligned = check::misaligned(a, device);
+            let denied = denied1(s, a, device, l);
+            check::permitted(stage, a.address, l, misaligned, denied, attributes)
         }
     }
 }
@@ -249,7 +221,7 @@ fn flat(s: Stage1, a: Access) -> Checked
     if in_pamax(s, input) {
         let attributes = attributes::flat_attributes(dc, access::is_fetch(a), i);
         let kind = attributes.memory;
-        if misaligned1(a, attributes::is_device(kind)) {
+        if check::misaligned(a, attributes::is_device(kind)) {
             return Checked::Stopped(Stop::Misaligned(Stage::One));
         }
         Checked::Passed(Output {

@@ -1,4 +1,5 @@
 // Stage 2: its walk, the checks after it, and both together.
+use crate::check;
 use crate::table;
 use crate::table::Turn;
 use access::Access;
@@ -12,7 +13,6 @@ use walk::answer::Stage;
 use walk::answer::Stop;
 use walk::stage::Checked;
 use walk::stage::Leaf;
-use walk::stage::Output;
 use walk::stage::Root;
 use walk::stage::Stage2;
 use walk::stage::Table;
@@ -23,8 +23,6 @@ ghost use lib.ListN.{length};
 ghost use Rattle.descriptor.specs.Program.{done};
 ghost use Rattle.descriptor.specs.Entry.{nothing};
 ghost use Rattle.capture.specs.Capture.{memory};
-ghost use mathlib.Core.Bool.{not, _&&_};
-ghost use Rattle.access.specs.Access as Accesses;
 ghost use Rattle.walk.specs.Walk as Walks;
 ghost use Rattle.walk.specs.Stages as Stages;
 ghost use Rattle.question.specs.Ran.{Ran, walked, checked, Small, SmallRoot};
@@ -99,69 +97,35 @@ fn uncached2(s: Stage2, a: Access, onwalk: bool) -> bool
     }
 }
 
-// Alignment is never tested on-walk.
-fn misaligned2(a: Access, onwalk: bool, device: bool) -> bool
-    ensures { λ r. ⌜ r ≡ (not onwalk && device && Accesses.unaligned a) ⌝ }
-{
-    if onwalk {
-        return false;
-    }
-    if device { access::unaligned(a) } else { false }
-}
-
 // A fetch from Device memory is refused, and on-walk any access to it with PTW set.
 fn refused2(s: Stage2, a: Access, onwalk: bool, device: bool) -> bool
     ensures { λ r. ⌜ r ≡ Stages.refused2 s a onwalk device ⌝ }
 {
-    let ptw = s.ptw;
-    if device {
-        if access::is_fetch(a) {
-            return true;
-        }
-        if onwalk { ptw } else { false }
-    } else {
-        false
-    }
+    device & (access::is_fetch(a) | onwalk & s.ptw)
 }
 
-// The checks after the walk, in their order.
+// Permission, then what Device memory refuses.
+fn denied2(s: Stage2, a: Access, onwalk: bool, device: bool, x: u64) -> bool
+    ensures { λ r. ⌜ r ≡ Stages.denied2 s a onwalk device x ⌝ }
+{
+    !permission::stage2_permits(onwalk, a, x) | refused2(s, a, onwalk, device)
+}
+
+// The checks after the walk. Alignment is never tested on-walk.
 fn check2(s: Stage2, a: Access, onwalk: bool, ipa: u64, l: Leaf) -> Checked
     ensures { λ r. ⌜ r ≡ Stages.check2 s a onwalk ipa l ⌝ }
 {
     let word = l.word;
-    let shift = l.shift;
     let level = l.level;
+    let stage = Stage::Two { ipa, onwalk };
     match attributes::stage2_attributes(uncached2(s, a, onwalk), word) {
-        Decoded::Unsettled => Checked::Stopped(Stop::Unsettled(Open {
-            stage: Stage::Two { ipa, onwalk },
-            level,
-        })),
+        Decoded::Unsettled => Checked::Stopped(Stop::Unsettled(Open { stage, level })),
         Decoded::Settled(attributes) => {
             let kind = attributes.memory;
             let device = attributes::is_device(kind);
-            if misaligned2(a, onwalk, device) {
-                return Checked::Stopped(Stop::Misaligned(Stage::Two { ipa, onwalk }));
-            }
-            if permission::stage2_permits(onwalk, a, word) {
-                if refused2(s, a, onwalk, device) {
-                    return Checked::Stopped(Stop::Fault(Fault {
-                        kind: FaultKind::Permission,
-                        stage: Stage::Two { ipa, onwalk },
-                        level,
-                    }));
-                }
-                Checked::Passed(Output {
-                    address: entry::output_address(word, shift, ipa),
-                    attributes,
-                    level,
-                })
-            } else {
-                Checked::Stopped(Stop::Fault(Fault {
-                    kind: FaultKind::Permission,
-                    stage: Stage::Two { ipa, onwalk },
-                    level,
-                }))
-            }
+            let misaligned = !onwalk & check::misaligned(a, device);
+            let denied = denied2(s, a, onwalk, device, word);
+            check::permitted(stage, ipa, l, misaligned, denied, attributes)
         }
     }
 }

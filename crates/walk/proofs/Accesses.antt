@@ -16,6 +16,7 @@ use Rattle.descriptor.specs.declared.entry.Geometry.{Geometry}
 use Rattle.descriptor.specs.declared.entry.Shape.{Shape}
 use Rattle.descriptor.specs.declared.entry.Shape.the-variants as Shape
 use Rattle.descriptor.specs.declared.entry.FaultKind.{FaultKind}
+use Rattle.descriptor.specs.declared.entry.FaultKind.the-variants.{Permission}
 use Rattle.attributes.specs.declared.Attributes.{Attributes}
 use Rattle.attributes.specs.declared.Decoded.{Decoded}
 use Rattle.attributes.specs.declared.Decoded.the-variants.{Settled, Unsettled}
@@ -36,7 +37,7 @@ use Rattle.walk.specs.declared.stage.Checked.the-variants.{Passed, Stopp
 use Rattle.walk.specs.declared.stage.Stage1.{Stage1}
 use Rattle.walk.specs.declared.stage.Stage2.{Stage2}
 use Rattle.walk.specs.Walk.{Reading, fault, absent, unsettled, walkFrom}
-use Rattle.walk.specs.Stages.{unless, settled, give, root2At, check2, translate2, place1, root1At, check1, flat, translate1, finish, access}
+use Rattle.walk.specs.Stages.{unless, settled, permitted, give, root2At, check2, translate2, place1, root1At, check1, flat, translate1, finish, access}
 use Rattle.walk.proofs.Walks.{Says, holds-walk}
 
 -- ---- descriptors are eight bytes: tables lie at multiples of eight, and so does each of their entries
@@ -111,6 +112,11 @@ module _ (m : Request → Fetch) (P : Request → Type 0) (S : Stop → Type 0)
   unfolding unless
   checks-unless {R} {c} b e s h = by-pick (Checks R) b (Stopped e) c (λ _. stops s) (λ _. h)
 
+  checks-permitted : {R : Output → Type 0} (s : Stage) (input : ℕ) (l : Leaf) (misaligned denied : Bool) (t : Attributes) → S (Misaligned s) → S (fault Permission s (l .level)) →
+      R (record { address = outputAddress (l .word) (l .shift) input; attributes = t; level = l .level }) → Checks R (permitted s input l misaligned denied t)
+  unfolding permitted
+  checks-permitted s input l misaligned denied t m f r = checks-unless _ _ m (checks-unless _ _ f (passes r))
+
   checks-settled : {R : Output → Type 0} (e : Stop) (k : Attributes → Checked) → S e → ((a : Attributes) → Checks R (k a)) → (d : Decoded) → Checks R (settled e k d)
   unfolding settled
   checks-settled e k s h (Settled a) = h a
@@ -136,8 +142,7 @@ module _ (m : Request → Fetch) (P : Request → Type 0) (S : Stop → Type 0)
     unfolding check2
     checks2 onWalk ipa l h =
         checks-settled _ _ (w .opens _ _)
-        (λ t. checks-unless _ _ (w .misaligned _) (checks-unless _ _ (w .faults _ _ _)
-        (passes (record { word = l .word; shift = l .shift; leaf = h; is = refl })))) _
+        (λ t. checks-permitted _ _ _ _ _ _ (w .misaligned _) (w .faults _ _ _) (record { word = l .word; shift = l .shift; leaf = h; is = refl })) _
 
     pub holds-translate2 : (onWalk : Bool) (ipa : ℕ) → H (λ o. Hit L ipa (o .address)) (translate2 s2 a onWalk ipa)
     unfolding translate2 walkFrom
@@ -173,7 +178,7 @@ module _ (m : Request → Fetch) (P : Request → Type 0) (S : Stop → Type 0)
 
       checks1 : (s1 : Stage1) (l : Leaf) → Checks Any (check1 s1 a l)
       unfolding check1
-      checks1 s1 l = checks-settled _ _ (w .opens _ _) (λ t. checks-unless _ _ (w .misaligned _) (checks-unless _ _ (w .faults _ _ _) (passes tt))) _
+      checks1 s1 l = checks-settled _ _ (w .opens _ _) (λ t. checks-permitted _ _ _ _ _ _ (w .misaligned _) (w .faults _ _ _) tt) _
 
       checks-flat : (s1 : Stage1) → Checks Any (flat s1 a)
       unfolding flat

@@ -39,6 +39,17 @@ unfoldable pub settled : Stop → (Attributes → Checked) → Decoded → Check
 settled e k (Settled a) = k a
 settled e k Unsettled = Stopped e
 
+-- a data access to Device memory that is not a multiple of its size (01, Checks)
+abbrev pub misaligned : Access → (device : Bool) → Bool
+misaligned a device = device && unaligned a
+
+-- what a leaf makes of an input at either stage, once its attributes are settled: alignment is tested before permission (01, Checks)
+unfoldable pub permitted : Stage → (input : ℕ) → Leaf → (misaligned denied : Bool) → Attributes → Checked
+permitted s input l misaligned denied attrs =
+    unless misaligned (Misaligned s)
+    (unless denied (fault F.Permission s (l .level))
+    (Passed (record { address = outputAddress (l .word) (l .shift) input; attributes = attrs; level = l .level })))
+
 -- checks read nothing
 unfoldable pub give : Checked → Reading Output
 give (Passed o) = done o
@@ -67,9 +78,8 @@ unfoldable pub check2 : Stage2 → Access → (onWalk : Bool) (ipa : ℕ) → Le
 check2 s a onWalk ipa l =
     settled (unsettled (Two ipa onWalk) (l .level))
     (λ attrs.
-    unless (not onWalk && isDevice (attrs .memory) && unaligned a) (Misaligned (Two ipa onWalk))
-    (unless (denied2 s a onWalk (isDevice (attrs .memory)) (l .word)) (fault F.Permission (Two ipa onWalk) (l .level))
-    (Passed (record { address = outputAddress (l .word) (l .shift) ipa; attributes = attrs; level = l .level }))))
+    let device = isDevice (attrs .memory) in
+    permitted (Two ipa onWalk) ipa l (not onWalk && misaligned a device) (denied2 s a onWalk device (l .word)) attrs)
     (stage2Attributes (uncached2 s a onWalk) (l .word))
 
 unfoldable pub translate2 : Stage2 → Access → (onWalk : Bool) (ipa : ℕ) → Reading Output
@@ -116,9 +126,8 @@ unfoldable pub check1 : Stage1 → Access → Leaf → Checked
 check1 s a l =
     settled (unsettled One (l .level))
     (λ attrs.
-    unless (isDevice (attrs .memory) && unaligned a) (Misaligned One)
-    (unless (denied1 s a (isDevice (attrs .memory)) l) (fault F.Permission One (l .level))
-    (Passed (record { address = outputAddress (l .word) (l .shift) (a .address); attributes = attrs; level = l .level }))))
+    let device = isDevice (attrs .memory) in
+    permitted One (a .address) l (misaligned a device) (denied1 s a device l) attrs)
     (stage1Attributes (s .mair) (uncached1 s a) (l .word))
 
 -- stage 1 off: the address as it is, if its bits Top down to PAMax are 0; no permission is tested (01, Attributes, stage 1 off; Checks)
@@ -126,7 +135,7 @@ unfoldable pub flat : Stage1 → Access → Checked
 flat s a =
     let attrs = flatAttributes (s .dc) (isFetch a) (s .i) in
     unless (not (eqb (a .address % 2 ^ suc (top s (a .address)) / 2 ^ (s .pamax)) 0)) (fault F.AddressSize One 0)
-    (unless (isDevice (attrs .memory) && unaligned a) (Misaligned One)
+    (unless (misaligned a (isDevice (attrs .memory))) (Misaligned One)
     (Passed (record { address = a .address % 2 ^ 48; attributes = attrs; level = 0 })))
 
 -- from the root for this address

@@ -23,6 +23,6 @@ flat-spec =
     (λ c κs. search needs)
     (λ c κs. search needs)
     (λ c κs. search needs)
-    (λ c. rw (← c .before .before .before .before .before .before .in-pamax .ensures, c .before .before .before .before .before .if1 .taken, ← flat-of _ _ _ _ _ (c .before .before .before .before .is-fetch .ensures) (c .before .before .before .flat-attributes .ensures), ← c .before .before .is-device .ensures, ← c .before .misaligned1 .ensures, c .if2 .taken))
-    (λ c. rw (← c .before .before .before .before .before .before .in-pamax .ensures, c .before .before .before .before .before .if1 .taken, ← flat-of _ _ _ _ _ (c .before .before .before .before .is-fetch .ensures) (c .before .before .before .flat-attributes .ensures), ← c .before .before .is-device .ensures, ← c .before .misaligned1 .ensures, c .if2 .left))
+    (λ c. rw (← c .before .before .before .before .before .before .in-pamax .ensures, c .before .before .before .before .before .if1 .taken, ← flat-of _ _ _ _ _ (c .before .before .before .before .is-fetch .ensures) (c .before .before .before .flat-attributes .ensures), ← c .before .before .is-device .ensures, ← c .before .misaligned .ensures, c .if2 .taken))
+    (λ c. rw (← c .before .before .before .before .before .before .in-pamax .ensures, c .before .before .before .before .before .if1 .taken, ← flat-of _ _ _ _ _ (c .before .before .before .before .is-fetch .ensures) (c .before .before .before .flat-attributes .ensures), ← c .before .before .is-device .ensures, ← c .before .misaligned .ensures, c .if2 .left))
     (λ c. rw (← c .before .in-pamax .ensures, c .if1 .left)))
