@@ -1,8 +1,8 @@
 -- Memory attributes: decoding, combining, reporting (01, Attributes).
 -- Assumes nothing.
-use mathlib.Core.Bool.{Bool, true, false, not, _&&_}
-use Prim.Native.Nat.{ℕ, _*_, _/_, _%_, _^_}
-use lib.Dec.{ltb, leb, eqb}
+use mathlib.Core.Bool.{Bool, true, false, _&&_}
+use Prim.Native.Nat.{ℕ, _*_, _/_, _%_}
+use lib.Dec.{leb, eqb}
 use Rattle.bits.specs.Bits.{pick, field}
 use Rattle.attributes.specs.declared.DeviceType.{DeviceType}
 use Rattle.attributes.specs.declared.DeviceType.the-variants.{NGnRnE, NGnRE, NGRE, GRE}

@@ -1,22 +1,20 @@
 -- After a clean audit every question is confined.
 -- Assumes nothing.
-use mathlib.Core.Path.{_≡_, refl, sym, subst, ap, _∙_}
-use mathlib.Core.Bool.{Bool, true, false, not}
+use mathlib.Core.Path.{_≡_, refl, sym, subst, _∙_}
+use mathlib.Core.Bool.{true, false}
 use mathlib.Core.List.{List, [], _∷_}
 use mathlib.Core.Option.{Option, some, none}
-use Prim.Native.Nat.{ℕ, suc, _+_, _-_, _*_, _%_, _^_, _≤_, _<_}
+use Prim.Native.Nat.{ℕ, suc, _+_, _-_, _*_, _%_, _^_, _<_}
 use native.Mathlib.Omega.{arith}
 use lib.ListN.{length, getD}
 use borrow.Author.Tests.{not-false}
-use Rattle.descriptor.specs.Program.{stage-1, stage-2, Request, Outcome, reached, stopped, run, reads, stop, All, nil, cons}
+use Rattle.descriptor.specs.Program.{Request, Outcome, reached, stopped, run, reads, stop, All, cons}
 use Rattle.access.specs.declared.Access.{Access}
 use Rattle.descriptor.specs.declared.entry.Fetch.{Fetch}
-use Rattle.descriptor.specs.declared.entry.Fetch.the-variants.{Word}
 use Rattle.descriptor.proofs.Holds.{OnOutcome, Holds, on-stop, holds-reads, holds-run, holds-pick}
 use Rattle.capture.specs.Capture.{memory, SameBytes}
 use Rattle.capture.proofs.Bytewise.{same-word}
 use Rattle.walk.specs.Walk.{Reading}
-use Rattle.walk.specs.Stages.{access}
 use Rattle.walk.specs.Answers.{answer}
 use Rattle.walk.specs.declared.answer.Refusal.{Refusal}
 use Rattle.walk.specs.declared.answer.Stop.{Stop}
@@ -35,7 +33,7 @@ use Rattle.question.specs.Refusals.{Ground, refuse}
 use Rattle.question.specs.Question.{question, told, ask}
 use Rattle.question.proofs.Refusals.{refuse-some, refuse-none, none-holds}
 use Rattle.audit.specs.Lists.{zip}
-use Rattle.audit.specs.Audit.{stage2Read, auditTable, auditListed, auditFrom, auditGrounds, auditOver, audit}
+use Rattle.audit.specs.Audit.{stage2Read, auditFrom, auditGrounds, auditOver, audit}
 use Rattle.audit.specs.Confinement.{InFrame, Audited, the-root, listed, InTables, ReadIn, MissingIn, AnswerIn, Confined, Confinement}
 use Rattle.audit.specs.declared.AuditAnswer.{AuditAnswer}
 use Rattle.audit.specs.declared.AuditAnswer.the-variants.{Clean, Refused}

@@ -1,16 +1,16 @@
 -- What a clean audit says of each entry of each audited table.
 -- Assumes nothing.
-use mathlib.Core.Path.{_≡_, refl, sym, subst, subst₂}
+use mathlib.Core.Path.{_≡_, refl, subst, subst₂}
 use mathlib.Core.Bool.{Bool, true, false, _&&_, _||_, false≢true}
 use mathlib.Core.List.{List, [], _∷_}
 use Prim.Native.Nat.{ℕ, zero, suc, _+_, _-_, _*_, _^_, _≤_, _<_}
 use native.Mathlib.Nat.{not-suc-le-zero, le-of-suc-le-suc}
 use native.Mathlib.Omega.{arith}
-use lib.Dec.{leb, ltb, eqb}
+use lib.Dec.{eqb}
 use borrow.Author.Tests.{eqb-true}
-use Rattle.bits.specs.Bits.{pick, upper}
+use Rattle.bits.specs.Bits.{pick}
 use Rattle.descriptor.specs.Program.{Request}
-use Rattle.descriptor.specs.Entry.{shift, shape}
+use Rattle.descriptor.specs.Entry.{shape}
 use Rattle.descriptor.specs.declared.entry.Fetch.{Fetch}
 use Rattle.descriptor.specs.declared.entry.Fetch.the-variants.{Word}
 use Rattle.descriptor.specs.declared.entry.Geometry.{Geometry}
@@ -19,7 +19,7 @@ use Rattle.descriptor.specs.declared.entry.Shape.the-variants as Shape
 use Rattle.bits.proofs.Tests.{and-left, and-right}
 use Rattle.walk.specs.declared.stage.Table.{Table}
 use Rattle.walk.proofs.Walks.{Says}
-use Rattle.audit.specs.Audit.{found, orElse, granted, isListed, stage2Read, eachEntry, examineAs, examine, auditTable, auditListed}
+use Rattle.audit.specs.Audit.{found, orElse, isListed, stage2Read, eachEntry, examineAs, examine, auditTable, auditListed}
 use Rattle.audit.specs.declared.FindingKind.{FindingKind}
 use Rattle.audit.specs.declared.AuditAnswer.{AuditAnswer}
 use Rattle.audit.specs.declared.AuditAnswer.the-variants.{Clean, Found, Refused}

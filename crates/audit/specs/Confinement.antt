@@ -1,11 +1,11 @@
 -- Demand 3, confinement (01, Demand 3 in full). Proved in proofs/Confinement.antt.
 -- Assumes nothing.
 use mathlib.Core.Path.{_≡_}
-use mathlib.Core.Bool.{Bool, true}
+use mathlib.Core.Bool.{true}
 use mathlib.Core.List.{List}
 use Prim.Native.Nat.{ℕ, _+_, _*_, _%_, _^_, _≤_}
 use lib.ListN.{length}
-use Rattle.descriptor.specs.Program.{Reader, stage-1, stage-2, Request, All}
+use Rattle.descriptor.specs.Program.{Reader, stage-1, stage-2, All}
 use Rattle.access.specs.declared.Access.{Access}
 use Rattle.capture.specs.Capture.{SameBytes}
 use Rattle.walk.specs.declared.answer.Stage.{Stage}

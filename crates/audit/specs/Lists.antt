@@ -1,6 +1,6 @@
 -- The audit's lists: grants (address, byte count) and tables (address, level), each as two 64-bit lists (01, The audit).
 -- Assumes nothing.
-use mathlib.Core.Bool.{Bool, true, false, not, _&&_, _||_}
+use mathlib.Core.Bool.{Bool, true, _&&_, _||_}
 use mathlib.Core.List.{List, [], _∷_}
 use Prim.Native.Nat.{ℕ, _+_, _%_, _^_}
 use lib.Dec.{ltb, leb, eqb}

@@ -11,7 +11,6 @@ use Rattle.access.specs.Access.{listed}
 use Rattle.descriptor.specs.declared.entry.Fetch.{Fetch}
 use Rattle.capture.specs.Capture.{memory}
 use Rattle.walk.specs.Answers.{number}
-use Rattle.walk.specs.declared.answer.Refusal.{Refusal}
 use Rattle.walk.specs.declared.answer.Refusal.the-variants.{BatchLists, Unlisted}
 use Rattle.walk.specs.declared.answer.Answer.{Answer}
 use Rattle.walk.specs.declared.answer.Answer.the-variants as A

@@ -1,13 +1,13 @@
 -- A sparse memory is the memory of its bytes.
 -- Assumes nothing.
 use mathlib.Core.Path.{_≡_, refl, sym, ap, ap₂, _∙_, fun-ext}
-use mathlib.Core.Bool.{Bool, true, false, _&&_, false≢true}
-use mathlib.Core.List.{List, [], _∷_}
+use mathlib.Core.Bool.{Bool, true, false}
+use mathlib.Core.List.{List, _∷_}
 use Prim.Native.Nat.{ℕ, zero, suc, _+_, _-_, _*_, _/_, _%_, _^_, _≤_, _<_}
 use native.Mathlib.Nat.{add-zero, div-div-eq-div-mul, mod-one, div-one, pow-suc}
 use native.Mathlib.Omega.{arith}
 use lib.Arith.{mod-mul}
-use lib.Dec.{leb, eqb}
+use lib.Dec.{eqb}
 use lib.ListN.{take, drop}
 use borrow.Author.Tests.{eqb-true}
 use Rattle.bits.specs.Bits.{pick}

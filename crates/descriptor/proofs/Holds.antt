@@ -2,7 +2,6 @@
 -- Assumes nothing.
 use mathlib.Core.Path.{_≡_, refl}
 use mathlib.Core.Bool.{Bool, true, false}
-use mathlib.Core.List.{List}
 use Prim.Native.Nat.{ℕ}
 use Rattle.bits.specs.Bits.{pick}
 use Rattle.descriptor.specs.Program.{Outcome, reached, stopped, Program, done, stop, note, ask, All, nil, bind, run, reads}

@@ -1,8 +1,8 @@
 -- Entries of translation tables, of either stage and any granule.
 -- An entry is known by the number n of levels below it: its level is 3 - n.
 -- Assumes nothing.
-use mathlib.Core.Bool.{Bool, true, false, _&&_, _||_}
-use Prim.Native.Nat.{ℕ, _+_, _*_, _/_, _%_, _^_}
+use mathlib.Core.Bool.{Bool, false, _&&_, _||_}
+use Prim.Native.Nat.{ℕ, _+_, _*_, _%_, _^_}
 use lib.Dec.{ltb, leb, eqb}
 use Rattle.bits.specs.Bits.{pick, bit, upper, beyond}
 use Rattle.descriptor.specs.declared.entry.Geometry.{Geometry}

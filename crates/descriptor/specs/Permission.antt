@@ -1,8 +1,7 @@
 -- Permissions of a leaf's descriptor x, for each stage (01, Checks).
 -- Assumes nothing.
 use mathlib.Core.Bool.{Bool, true, not, _&&_, _||_}
-use Prim.Native.Nat.{ℕ, _/_, _%_, _^_}
-use lib.Dec.{eqb}
+use Prim.Native.Nat.{ℕ}
 use Rattle.bits.specs.Bits.{pick, bit}
 use Rattle.access.specs.Access.{isRead, isWrite, atEl0}
 use Rattle.access.specs.declared.Access.{Access}

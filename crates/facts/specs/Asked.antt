@@ -1,6 +1,6 @@
 -- Questions and audits over a sparse capture, and what 01's tables say of their answers.
 -- Assumes nothing.
-use mathlib.Core.List.{List, [], _∷_}
+use mathlib.Core.List.{List}
 use Prim.Native.Nat.{ℕ}
 use lib.ListN.{replicate}
 use Rattle.access.specs.declared.Access.{Access}

@@ -11,7 +11,6 @@ use Rattle.attributes.specs.declared.DeviceType.the-variants.{NGnRnE}
 use Rattle.attributes.specs.declared.Cacheability.the-variants.{WriteBack}
 use Rattle.attributes.specs.declared.MemoryType.the-variants.{Device, Normal}
 use Rattle.attributes.specs.declared.Shareability.the-variants.{OuterShareable, InnerShareable}
-use Rattle.attributes.specs.declared.Attributes.{Attributes}
 use Rattle.capture.specs.Sparse.{sparse}
 use Rattle.walk.specs.Answers.{Value, address, attributes, stage, level, level1, level2, on-walk, ipa, reads, item}
 use Rattle.registers.specs.declared.El1.{El1}
@@ -27,7 +26,7 @@ use Rattle.walk.specs.declared.answer.Refusal.the-variants.{BatchLists}
 use Rattle.audit.specs.declared.FindingKind.the-variants.{NotCaptured, TouchesGrant, UnlistedTable, OutsideGrants}
 use Rattle.audit.specs.declared.AuditAnswer.the-variants.{Clean, Found}
 use Rattle.facts.specs.Open.{opened}
-use Rattle.facts.specs.Asked.{Image, Row, before, asked, audited}
+use Rattle.facts.specs.Asked.{Image, before, asked, audited}
 
 -- ---- the capture and the registers that all cases start from
 

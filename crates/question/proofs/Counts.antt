@@ -1,19 +1,18 @@
 -- The number of reads of a question.
 -- Assumes nothing.
-use mathlib.Core.Path.{_≡_, refl, ap, ap₂, sym, _∙_, subst}
-use mathlib.Core.Bool.{Bool, true, false, not}
-use mathlib.Core.List.{List, [], _∷_, map}
+use mathlib.Core.Path.{_≡_, refl, ap, sym, _∙_, subst}
+use mathlib.Core.Bool.{Bool, true, false}
+use mathlib.Core.List.{List, []}
 use mathlib.Core.Option.{Option, some, none}
-use Prim.Native.Nat.{ℕ, zero, suc, _+_, _-_, _*_, _≤_, suc-le-suc}
-use native.Mathlib.Nat.{mul-le-mul, mul-one, add-zero}
+use Prim.Native.Nat.{ℕ, suc, _+_, _-_, _*_, _≤_}
+use native.Mathlib.Nat.{mul-le-mul}
 use native.Mathlib.Numerals.{add-one}
 use native.Mathlib.Omega.{arith}
-use lib.Dec.{eqb}
-use lib.IntN.{ℤ, pos, negsuc}
+use lib.IntN.{ℤ, pos}
 use lib.ListN.{length}
 use borrow.Author.Tests.{eqb-true, not-false}
 use Rattle.bits.specs.Bits.{pick}
-use Rattle.descriptor.specs.Program.{Request, Outcome, reached, stopped, stop, run, reads, ends, All, nil, cons}
+use Rattle.descriptor.specs.Program.{Request, Outcome, reached, stopped, run, reads, ends, All, cons}
 use Rattle.access.specs.declared.Access.{Access}
 use Rattle.descriptor.specs.declared.entry.Fetch.{Fetch}
 use Rattle.bits.proofs.Tests.{by-pick, pick-true, pick-false}
@@ -33,13 +32,13 @@ use Rattle.walk.proofs.Counts.{HasLevels, tight-access}
 use Rattle.registers.specs.Tcr
 use Rattle.registers.specs.Vtcr
 use Rattle.settings.specs.Settings.{stage1On, stage2On, settings}
-use Rattle.level.specs.Level.{fourK, inputSize, outputSize, start1, start2, levelsBelow}
+use Rattle.level.specs.Level.{fourK, inputSize, start1, start2, levelsBelow}
 use Rattle.regime.specs.Roots.{half1, root2, stage1, stage2}
 use Rattle.registers.specs.declared.El1.{El1}
 use Rattle.registers.specs.declared.El2.{El2}
 use Rattle.regime.proofs.Settings.{Sized, low-sized, high-sized}
 use Rattle.regime.proofs.Roots.{start1-is, start2-most, by-half1, by-root1At, by-root2, Sane, root2-sane}
-use Rattle.question.specs.Question.{Told, grounds, question, refusal, told, ask}
+use Rattle.question.specs.Question.{grounds, question, refusal, told, ask}
 use Rattle.question.specs.Counts.{levelsFrom, halfLevels, n1, n2, limit, Counted, Counts}
 use Rattle.question.proofs.Refusals.{refuse-some, refuse-none, none-holds}
 

@@ -1,10 +1,10 @@
 -- Answer, count and log depend on nothing but the descriptors read.
 -- Assumes nothing.
-use mathlib.Core.Path.{_≡_, refl, sym}
-use mathlib.Core.List.{List, _∷_, []}
+use mathlib.Core.Path.{_≡_}
+use mathlib.Core.List.{List}
 use Prim.Native.Nat.{ℕ}
 use lib.ListN.{length}
-use Rattle.descriptor.specs.Program.{Request, All, nil, cons}
+use Rattle.descriptor.specs.Program.{Request}
 use Rattle.access.specs.declared.Access.{Access}
 use Rattle.descriptor.specs.declared.entry.Fetch.{Fetch}
 use Rattle.descriptor.proofs.Laws.{Same, frame, all-map}

@@ -1,7 +1,7 @@
 -- Laws of calls that ran a program.
 -- Assumes nothing.
-use mathlib.Core.Path.{_≡_, refl, sym, ap, _∙_, subst}
-use mathlib.Core.List.{List, [], _∷_, _++_, map, map-append, append-nil}
+use mathlib.Core.Path.{_≡_, refl, sym, ap, _∙_}
+use mathlib.Core.List.{List, [], _∷_, _++_, map-append, append-nil}
 use Prim.Native.Nat.{ℕ, suc, _+_}
 use native.Mathlib.Numerals.{add-one}
 use native.Mathlib.Omega.{arith}
@@ -9,7 +9,7 @@ use lib.ListN.{length, set, length-append, length-map}
 use lib.Seq.{sets, length-sets}
 use mathlib.Core.Bool.{Bool, true, false}
 use Rattle.bits.specs.Bits.{pick}
-use Rattle.descriptor.specs.Program.{Request, Outcome, reached, stopped, Program, done, stop, note, ask, counted, bind, run, reads}
+use Rattle.descriptor.specs.Program.{Request, Outcome, reached, stopped, done, stop, note, ask, counted, bind, run, reads}
 use Rattle.descriptor.specs.declared.entry.Fetch.{Fetch}
 use Rattle.descriptor.specs.declared.entry.Fetch.the-variants.{Absent, Word}
 use Rattle.descriptor.proofs.Laws.{on, run-bind, reads-bind}

@@ -1,15 +1,14 @@
 -- The roots that accepted registers give are small: no address of a walk from them leaves 64 bits.
 -- Assumes nothing.
-use mathlib.Core.Path.{_≡_, refl, sym, subst}
+use mathlib.Core.Path.{_≡_, sym, subst}
 use mathlib.Core.Bool.{Bool, true, false}
-use Prim.Native.Nat.{ℕ, suc, _+_, _-_, _*_, _≤_, suc-le-suc}
+use Prim.Native.Nat.{ℕ, _+_, _-_, _*_, _≤_, suc-le-suc}
 use native.Mathlib.Omega.{arith}
 use lib.IntN.{ℤ, pos}
 use Rattle.walk.specs.Stages.{root1At}
-use Rattle.registers.specs.Tcr
 use Rattle.registers.specs.Vtcr
 use Rattle.settings.specs.Settings.{stage1On, settings}
-use Rattle.level.specs.Level.{fourK, inputSize, outputSize, start1, start2, levelsBelow}
+use Rattle.level.specs.Level.{fourK, inputSize, outputSize, levelsBelow}
 use Rattle.regime.specs.Roots.{tableOf, half1, root2, stage1}
 use Rattle.registers.specs.declared.El1.{El1}
 use Rattle.registers.specs.declared.El2.{El2}

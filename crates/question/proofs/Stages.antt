@@ -1,12 +1,11 @@
 -- Calls that ran a stage.
 -- Assumes nothing.
-use mathlib.Core.Path.{_≡_, refl, sym, subst, _∙_}
-use mathlib.Core.Bool.{Bool, true, false, not, _&&_, _||_}
+use mathlib.Core.Path.{_≡_, sym, subst, _∙_}
+use mathlib.Core.Bool.{Bool, true, false}
 use mathlib.Core.List.{List}
-use Prim.Native.Nat.{ℕ, suc, _+_, _-_, _*_, _/_, _%_, _^_}
-use lib.Dec.{ltb, eqb}
-use Rattle.bits.specs.Bits.{pick, bit, beyond}
-use Rattle.descriptor.specs.Program.{Request, Outcome, reached, stopped, done, stop, bind}
+use Prim.Native.Nat.{ℕ, _-_}
+use Rattle.bits.specs.Bits.{pick, beyond}
+use Rattle.descriptor.specs.Program.{Request, Outcome, done, bind}
 use Rattle.descriptor.specs.Entry.{nothing}
 use Rattle.access.specs.declared.Access.{Access}
 use Rattle.descriptor.specs.declared.entry.Fetch.{Fetch}
@@ -14,7 +13,7 @@ use Rattle.descriptor.specs.declared.entry.FaultKind.{FaultKind}
 use Rattle.descriptor.specs.declared.entry.FaultKind.the-variants as F
 use Rattle.bits.proofs.Tests.{pick-false}
 use Rattle.walk.specs.Walk.{fault, walk, walkFrom}
-use Rattle.walk.specs.Stages.{give, root2At, check2, translate2, place1, root1At, check1, flat, translate1, finish, access}
+use Rattle.walk.specs.Stages.{give, check2, translate2, place1, root1At, check1, flat, translate1, finish, access}
 use Rattle.walk.specs.declared.answer.Stage.the-variants.{One, Two}
 use Rattle.walk.specs.declared.answer.Translation.{Translation}
 use Rattle.walk.specs.declared.answer.Stop.{Stop}

@@ -1,17 +1,16 @@
 -- What a call gives where a question is refused, and where it is not.
 -- Assumes nothing.
 use mathlib.Core.Path.{_≡_, refl, sym, ap, ap₂, _∙_}
-use mathlib.Core.Bool.{Bool, true, false, not}
-use mathlib.Core.List.{List, map}
+use mathlib.Core.Bool.{Bool, true, false}
+use mathlib.Core.List.{List}
 use mathlib.Core.Option.{some, none}
 use Prim.Native.Nat.{ℕ, _+_, _-_, _^_, _≤_, _<_}
 use native.Mathlib.Omega.{arith}
 use lib.Dec.{ltb, eqb}
 use lib.ListN.{length}
-use lib.Seq.{sets}
 use borrow.Author.Tests.{ltb-true, ltb-false, lt-ltb, le-ltb}
 use Rattle.bits.specs.Bits.{pick}
-use Rattle.descriptor.specs.Program.{Outcome, reads, run}
+use Rattle.descriptor.specs.Program.{Outcome, reads}
 use Rattle.access.specs.Access.{listed}
 use Rattle.access.specs.declared.Access.{Access}
 use Rattle.capture.specs.Capture.{memory}
@@ -28,7 +27,7 @@ use Rattle.regime.specs.Roots.{stage1, stage2}
 use Rattle.registers.specs.declared.El1.{El1}
 use Rattle.registers.specs.declared.El2.{El2}
 use Rattle.question.specs.Refusals.{refuse}
-use Rattle.question.specs.Question.{question, refusal, told, ask, Tells}
+use Rattle.question.specs.Question.{refusal, told, ask, Tells}
 use Rattle.question.specs.Ran.{Ran}
 use Rattle.question.proofs.Counts.{is-access, counts}
 

@@ -6,14 +6,12 @@ use Prim.Native.Nat.{ℕ, zero, suc, _+_, _-_, _*_, _/_, _%_, _^_, _≤_, _<_}
 use native.Mathlib.Nat.{div-mul-le-self, mod-lt, lt-of-lt-of-le}
 use lib.Pow.{pow-pos, pow-mono}
 use native.Mathlib.Omega.{arith}
-use lib.ListN.{length, set, length-set}
-use mathlib.Core.Bool.{Bool, true, false, _&&_}
-use lib.Dec.{ltb, eqb}
+use lib.ListN.{length, length-set}
+use mathlib.Core.Bool.{Bool, true, false}
 use Rattle.bits.specs.Bits.{pick, bit, field, upper, beyond}
-use Rattle.descriptor.specs.Program.{Request, Outcome, reached, stopped, done, stop, note, ask, bind}
-use Rattle.descriptor.specs.Entry.{shift, shape, contiguous, decodeAs, decode}
+use Rattle.descriptor.specs.Program.{Request, Outcome, reached, stopped, done, stop, note, ask}
+use Rattle.descriptor.specs.Entry.{shape, contiguous, decodeAs, decode}
 use Rattle.descriptor.specs.declared.entry.Fetch.{Fetch}
-use Rattle.descriptor.specs.declared.entry.Fetch.the-variants.{Absent, Word}
 use Rattle.descriptor.specs.declared.entry.Geometry.{Geometry}
 use Rattle.descriptor.specs.declared.entry.Shape.{Shape}
 use Rattle.descriptor.specs.declared.entry.Shape.the-variants as Shape
@@ -22,9 +20,8 @@ use Rattle.bits.proofs.Tests.{by-pick}
 use Rattle.descriptor.specs.declared.entry.Entry.{Entry}
 use Rattle.descriptor.specs.declared.entry.Entry.the-variants as E
 use Rattle.descriptor.specs.declared.entry.Inherited.{Inherited}
-use Rattle.walk.specs.Walk.{Reading, readerOf, fault, absent, unsettled, entryAddress, inheritAt, fetched, follow, walk}
+use Rattle.walk.specs.Walk.{Reading, readerOf, fault, absent, entryAddress, inheritAt, fetched, follow, walk}
 use Rattle.walk.specs.declared.answer.Stage.{Stage}
-use Rattle.walk.specs.declared.answer.Stage.the-variants.{Two}
 use Rattle.walk.specs.declared.answer.Stop.{Stop}
 use Rattle.walk.specs.declared.stage.Leaf.{Leaf}
 use Rattle.walk.specs.declared.stage.Walked.{Walked}

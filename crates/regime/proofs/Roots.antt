@@ -1,15 +1,15 @@
 -- Roots that registers give: how many levels they have, and that they are aligned.
 -- Assumes nothing.
-use mathlib.Core.Path.{_≡_, refl, ap, sym, subst}
-use mathlib.Core.Bool.{Bool, true, false, cond, _&&_, true≢false}
-use Prim.Native.Nat.{ℕ, zero, suc, _+_, _-_, _*_, _/_, _%_, _^_, _≤_, _<_, suc-le-suc}
+use mathlib.Core.Path.{_≡_, refl, sym, subst}
+use mathlib.Core.Bool.{Bool, true, false, cond, true≢false}
+use Prim.Native.Nat.{ℕ, zero, suc, _+_, _-_, _*_, _/_, _≤_, _<_, suc-le-suc}
 use native.Mathlib.Nat.{mod-lt}
 use native.Mathlib.Omega.{arith}
-use lib.Dec.{leb, ltb, eqb}
+use lib.Dec.{ltb}
 use lib.IntN.{ℤ, pos, negsuc, subℕ, _-ℤ_}
 use lib.Signed.{ltZ}
 use borrow.Author.Tests.{ltb-true, ltb-false}
-use Rattle.bits.specs.Bits.{pick, beyond}
+use Rattle.bits.specs.Bits.{beyond}
 use Rattle.descriptor.specs.declared.entry.Geometry.{Geometry}
 use Rattle.descriptor.specs.declared.entry.FaultKind.{FaultKind}
 use Rattle.bits.proofs.Tests.{by-pick}
@@ -19,7 +19,6 @@ use Rattle.walk.specs.declared.stage.Root.the-variants.{Unusable, Usable}
 use Rattle.walk.specs.declared.stage.Half.{Half}
 use Rattle.walk.specs.declared.stage.Stage1.{Stage1}
 use Rattle.walk.proofs.Accesses.{Aligned, upper-aligned}
-use Rattle.registers.specs.Tcr
 use Rattle.registers.specs.Vtcr
 use Rattle.level.specs.Level.{fourK, inputSize, outputSize, start1, start2, sizeCheck, levelsBelow}
 use Rattle.regime.specs.Roots.{tableOf, rootOf, half1, root2, stage1}

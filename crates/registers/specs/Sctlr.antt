@@ -1,8 +1,6 @@
 -- Fields of SCTLR_EL1 and SCTLR_EL2 that 01 names.
 -- Assumes nothing.
 use mathlib.Core.Bool.{Bool}
-use Prim.Native.Nat.{ℕ, _/_, _%_, _^_}
-use lib.Dec.{eqb}
 use Rattle.bits.specs.Bits.{bit}
 use Rattle.registers.specs.declared.sctlr.Sctlr.{Sctlr}
 

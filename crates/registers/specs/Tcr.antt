@@ -1,8 +1,7 @@
 -- Fields of TCR_EL1 that 01 names.
 -- Assumes nothing.
 use mathlib.Core.Bool.{Bool}
-use Prim.Native.Nat.{ℕ, _/_, _%_, _^_}
-use lib.Dec.{eqb}
+use Prim.Native.Nat.{ℕ}
 use Rattle.bits.specs.Bits.{field, bit}
 use Rattle.registers.specs.declared.tcr.Tcr.{Tcr}
 

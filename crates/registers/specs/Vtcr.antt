@@ -1,6 +1,6 @@
 -- Fields of VTCR_EL2 that 01 names.
 -- Assumes nothing.
-use Prim.Native.Nat.{ℕ, _/_, _%_, _^_}
+use Prim.Native.Nat.{ℕ}
 use Rattle.bits.specs.Bits.{field}
 use Rattle.registers.specs.declared.vtcr.Vtcr.{Vtcr}
 

@@ -1,13 +1,12 @@
 -- What holds of a whole access with stage 2 on, from what holds of stage 2's tables.
 -- Assumes nothing.
 use mathlib.Core.Path.{_≡_, refl, ap, sym, _∙_, subst}
-use mathlib.Core.Bool.{Bool, true, false, not, _&&_, _||_, false≢true}
+use mathlib.Core.Bool.{Bool, true, false, false≢true}
 use Prim.Native.Nat.{ℕ, suc, _+_, _-_, _*_, _/_, _%_, _^_, _<_}
 use native.Mathlib.Omega.{arith}
-use lib.Dec.{ltb, eqb}
 use lib.Pow.{pow-add}
-use Rattle.bits.specs.Bits.{pick, bit, upper, beyond}
-use Rattle.descriptor.specs.Program.{stage-1, stage-2, Request, done, stop, bind}
+use Rattle.bits.specs.Bits.{upper, beyond}
+use Rattle.descriptor.specs.Program.{stage-1, stage-2, Request, done}
 use Rattle.descriptor.specs.Entry.{shift, shape, outputAddress, nothing}
 use Rattle.access.specs.declared.Access.{Access}
 use Rattle.descriptor.specs.declared.entry.Fetch.{Fetch}
@@ -26,7 +25,6 @@ use Rattle.walk.specs.declared.answer.Stage.{Stage}
 use Rattle.walk.specs.declared.answer.Stage.the-variants.{One, Two}
 use Rattle.walk.specs.declared.answer.Stop.{Stop}
 use Rattle.walk.specs.declared.answer.Stop.the-variants.{Misaligned}
-use Rattle.walk.specs.declared.answer.Translation.{Translation}
 use Rattle.walk.specs.declared.stage.Leaf.{Leaf}
 use Rattle.walk.specs.declared.stage.Table.{Table}
 use Rattle.walk.specs.declared.stage.Root.{Root}
@@ -37,7 +35,7 @@ use Rattle.walk.specs.declared.stage.Checked.the-variants.{Passed, Stopp
 use Rattle.walk.specs.declared.stage.Stage1.{Stage1}
 use Rattle.walk.specs.declared.stage.Stage2.{Stage2}
 use Rattle.walk.specs.Walk.{Reading, fault, absent, unsettled, walkFrom}
-use Rattle.walk.specs.Stages.{unless, settled, permitted, give, root2At, check2, translate2, place1, root1At, check1, flat, translate1, finish, access}
+use Rattle.walk.specs.Stages.{unless, settled, permitted, give, check2, translate2, place1, root1At, check1, flat, translate1, finish, access}
 use Rattle.walk.proofs.Walks.{Says, holds-walk}
 
 -- ---- descriptors are eight bytes: tables lie at multiples of eight, and so does each of their entries

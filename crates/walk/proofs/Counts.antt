@@ -1,15 +1,14 @@
 -- How many reads an access makes: with n1 and n2 levels at most n1 x (n2 + 1) + n2, met by a translated access exactly when each walk ends at level 3.
 -- Assumes nothing.
 use mathlib.Core.Path.{_≡_, refl, sym, subst}
-use mathlib.Core.Bool.{Bool, true, false, not, _&&_, _||_, true≢false, false≢true}
+use mathlib.Core.Bool.{Bool, true, false}
 use mathlib.Core.List.{[], _∷_}
-use Prim.Native.Nat.{ℕ, zero, suc, _+_, _-_, _*_, _/_, _%_, _^_, zero-le}
+use Prim.Native.Nat.{ℕ, zero, suc, _+_, _-_, _*_, zero-le}
 use native.Mathlib.Nat.{mul-one, zero-mul, add-zero}
 use native.Mathlib.Omega.{arith}
-use lib.Dec.{ltb, eqb}
-use Rattle.bits.specs.Bits.{pick, bit, beyond}
-use Rattle.descriptor.specs.Program.{Request, Program, done, stop, note, bind, run, reads, ends, nil, cons}
-use Rattle.descriptor.specs.Entry.{decode, nothing}
+use Rattle.bits.specs.Bits.{pick}
+use Rattle.descriptor.specs.Program.{Request, done, note, bind, run, reads, ends, nil, cons}
+use Rattle.descriptor.specs.Entry.{decode}
 use Rattle.access.specs.declared.Access.{Access}
 use Rattle.descriptor.specs.declared.entry.Fetch.{Fetch}
 use Rattle.descriptor.specs.declared.entry.Geometry.{Geometry}
@@ -17,11 +16,10 @@ use Rattle.descriptor.specs.declared.entry.Entry.{Entry}
 use Rattle.descriptor.specs.declared.entry.Entry.the-variants as E
 use Rattle.descriptor.specs.declared.entry.Inherited.{Inherited}
 use Rattle.bits.proofs.Tests.{by-pick}
-use Rattle.descriptor.proofs.Tally.{AllThree, Tight, tight-stop, tight-done, tight-bind, tight-pick, tight-choice, tight-ask}
+use Rattle.descriptor.proofs.Tally.{AllThree, Tight, tight-stop, tight-done, tight-bind, tight-choice, tight-ask}
 use Rattle.walk.specs.declared.answer.Stage.{Stage}
 use Rattle.walk.specs.declared.answer.Stage.the-variants.{One, Two}
 use Rattle.walk.specs.declared.answer.Stop.{Stop}
-use Rattle.walk.specs.declared.answer.Translation.{Translation}
 use Rattle.walk.specs.declared.stage.Leaf.{Leaf}
 use Rattle.walk.specs.declared.stage.Output.{Output}
 use Rattle.walk.specs.declared.stage.Root.{Root}

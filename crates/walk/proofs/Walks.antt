@@ -1,14 +1,12 @@
 -- What holds of a walk, of either stage: from what holds of its tables, of where its descriptors lie, and of what they say.
 -- Assumes nothing.
 use mathlib.Core.Path.{_≡_, refl}
-use mathlib.Core.Bool.{Bool, true, false, _&&_}
-use Prim.Native.Nat.{ℕ, zero, suc, _+_, _-_, _*_, _/_, _%_, _^_, _<_}
+use Prim.Native.Nat.{ℕ, zero, suc, _+_, _-_, _*_, _^_, _<_}
 use native.Mathlib.Nat.{mod-lt}
-use lib.Dec.{ltb, eqb}
 use lib.Pow.{pow-pos}
-use Rattle.bits.specs.Bits.{pick, field, bit, upper, beyond}
-use Rattle.descriptor.specs.Program.{Request, done, stop}
-use Rattle.descriptor.specs.Entry.{shift, shape, decodeAs, nothing}
+use Rattle.bits.specs.Bits.{field, upper}
+use Rattle.descriptor.specs.Program.{Request}
+use Rattle.descriptor.specs.Entry.{shift, shape, decodeAs}
 use Rattle.descriptor.specs.declared.entry.Fetch.{Fetch}
 use Rattle.descriptor.specs.declared.entry.Fetch.the-variants.{Absent, Word}
 use Rattle.descriptor.specs.declared.entry.Geometry.{Geometry}
@@ -21,9 +19,7 @@ use Rattle.descriptor.proofs.Holds.{Holds, on-done, on-stop, on-note, on-ask, h
 use Rattle.walk.specs.declared.answer.Stage.{Stage}
 use Rattle.walk.specs.declared.answer.Stop.{Stop}
 use Rattle.walk.specs.declared.stage.Leaf.{Leaf}
-use Rattle.walk.specs.declared.stage.Root.{Root}
-use Rattle.walk.specs.declared.stage.Root.the-variants.{Unusable, Usable}
-use Rattle.walk.specs.Walk.{Reading, readerOf, fault, absent, unsettled, fetched, follow, walk, walkFrom}
+use Rattle.walk.specs.Walk.{Reading, readerOf, fault, absent, unsettled, fetched, follow, walk}
 
 -- what an entry x with n levels below it says, by its shape: the table it leads to is one of T, the leaf it is, with its shift, one of L
 abbrev pub Says : (T : ℕ → ℕ → ℕ → Type 0) (L : ℕ → ℕ → Type 0) → Geometry → (n x : ℕ) → Shape → Type 0

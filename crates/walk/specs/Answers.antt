@@ -1,7 +1,7 @@
 -- The answer of an outcome, and 01's table of answers: each answer's number and the values it carries.
 -- Assumes nothing.
 use mathlib.Core.Bool.{Bool, false}
-use mathlib.Core.List.{List, [], _∷_, _++_}
+use mathlib.Core.List.{List, [], _∷_}
 use Prim.Native.Nat.{ℕ}
 use Rattle.descriptor.specs.Program.{Outcome, reached, stopped}
 use Rattle.descriptor.specs.declared.entry.FaultKind.{FaultKind}

@@ -1,7 +1,7 @@
 -- Both stages of an access, from what registers say of them (01, Walk, Attributes, Checks; the order is that of 000).
 -- Assumes nothing.
 use mathlib.Core.Bool.{Bool, true, false, not, _&&_, _||_}
-use Prim.Native.Nat.{ℕ, suc, _+_, _-_, _/_, _%_, _^_}
+use Prim.Native.Nat.{ℕ, suc, _-_, _/_, _%_, _^_}
 use lib.Dec.{eqb}
 use Rattle.bits.specs.Bits.{pick, bit, beyond}
 use Rattle.descriptor.specs.Program.{done, stop, bind}

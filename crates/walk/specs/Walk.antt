@@ -1,6 +1,6 @@
 -- The table walk of one stage, over any geometry (01, Walk).
 -- Assumes nothing.
-use Prim.Native.Nat.{ℕ, zero, suc, _+_, _-_, _*_, _/_, _%_, _^_}
+use Prim.Native.Nat.{ℕ, zero, suc, _+_, _-_, _*_}
 use Rattle.bits.specs.Bits.{field}
 use Rattle.descriptor.specs.Program.{Reader, stage-1, stage-2, Request, Program, done, stop, note, ask, bind}
 use Rattle.descriptor.specs.Entry.{shift, decode, nothing, inherit}

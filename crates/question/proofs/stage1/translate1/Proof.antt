@@ -1,9 +1,7 @@
 -- `translate1` meets its contract.
 -- Assumes nothing.
 use borrow.Author.Needs.{needs}
-use mathlib.Core.Path.{refl}
 use native.Mathlib.Omega.{arith}
-use Rattle.question.specs.Ran.{SmallRoot}
 use Rattle.question.proofs.Stages.{ran-flat, ran-unusable1, ran-walk1-stopped, ran-walk1-checked}
 use Rattle.question.proofs.stage1.translate1.Statement.{statement}
 use Rattle.question.proofs.stage1.translate1.Tie as tie

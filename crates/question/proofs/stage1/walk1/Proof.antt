@@ -1,15 +1,15 @@
 -- `walk1` meets its contract: as `walk2`, with each descriptor placed first.
 -- Assumes nothing.
 use borrow.Author.Needs.{needs}
-use mathlib.Core.Path.{_≡_, refl}
-use Prim.Native.Nat.{_+_, _-_, _*_, _≤_, _<_}
+use mathlib.Core.Path.{refl}
+use Prim.Native.Nat.{_+_, _-_, _*_, _≤_}
 use native.Mathlib.Omega.{arith}
 use lib.ListN.{length}
 use Rattle.descriptor.specs.Entry.{nothing}
 use Rattle.capture.specs.Capture.{memory}
 use Rattle.walk.specs.Stages.{place1}
 use Rattle.walk.specs.declared.answer.Stage.the-variants.{One}
-use Rattle.question.specs.Ran.{walked, located, SmallRoot}
+use Rattle.question.specs.Ran.{walked, located}
 use Rattle.question.proofs.Ran.{ran-length}
 use Rattle.question.proofs.Turns.{Walking, entered-end, walking-over, walking-down, walking-done, walking-stopped}
 use Rattle.question.proofs.stage1.walk1.Statement.{statement}

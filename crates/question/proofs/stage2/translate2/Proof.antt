@@ -1,9 +1,8 @@
 -- `translate2` meets its contract.
 -- Assumes nothing.
 use borrow.Author.Needs.{needs}
-use mathlib.Core.Path.{refl, sym, _∙_}
+use mathlib.Core.Path.{sym, _∙_}
 use native.Mathlib.Omega.{arith}
-use Rattle.question.specs.Ran.{SmallRoot}
 use Rattle.question.proofs.Stages.{ran-outside, ran-unusable, ran-walk-stopped, ran-walk-checked}
 use Rattle.question.proofs.stage2.translate2.Statement.{statement}
 use Rattle.question.proofs.stage2.translate2.Tie as tie
