@@ -262,7 +262,7 @@ pub fn flat_attributes(dc: bool, fetch: bool, i: bool) -> Attributes
 }
 
 // Ranks: 0 is the strictest, and of two the stricter wins.
-fn device_rank(d: DeviceType) -> u64
+pub fn device_rank(d: DeviceType) -> u64
     ensures { λ r. ⌜ r ≡ Memories.deviceRank d ⌝ }
 {
     match d {
@@ -273,7 +273,7 @@ fn device_rank(d: DeviceType) -> u64
     }
 }
 
-fn cache_rank(c: Cacheability) -> u64
+pub fn cache_rank(c: Cacheability) -> u64
     ensures { λ r. ⌜ r ≡ Memories.cacheRank c ⌝ }
 {
     match c {

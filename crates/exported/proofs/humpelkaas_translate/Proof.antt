@@ -1,0 +1,16 @@
+-- `humpelkaas_translate` meets its contract, by those of the question and of its words.
+-- Assumes nothing.
+use borrow.Author.Needs.{needs}
+use Rattle.exported.proofs.humpelkaas_translate.Statement.{statement}
+use Rattle.exported.proofs.humpelkaas_translate.Tie as tie
+
+pub humpelkaas-translate-spec : {M : Type 1} → statement M
+humpelkaas-translate-spec =
+    tie.close
+    (tie.spec
+    (λ c κs. search needs)
+    (λ c κs. search needs)
+    (λ c. search needs)
+    (λ c.
+    let t = c .before .before .before .translate .ensures .0 in
+    (rw (← t .answered) (c .in-words .ensures), t .logged)))
