@@ -1,0 +1,124 @@
+//! Counts questions by class, so that a generator that no longer reaches some class is seen.
+use crate::proved::Words;
+use crate::walk::{bits, shift, Question};
+use std::collections::BTreeMap;
+
+/// Classes by row and column, each with how often it was met.
+pub struct Classes(BTreeMap<(String, String), u64>);
+
+const MEANINGS: [&str; 8] =
+    ["translated", "translation", "address size", "access flag", "permission", "alignment", "not in the capture", "unsettled"];
+
+/// A row of answers 1 to 7. The stage's word and the on-walk word are those of the answer.
+fn stopped(number: u64, stage: u64, onwalk: u64) -> String {
+    let on_walk = if onwalk == 1 { " on-walk" } else { "" };
+    format!("{number:2} {}, stage {stage}{on_walk}, by level", MEANINGS[number as usize])
+}
+
+const TRANSLATED: &str = " 0 translated, by leaf levels";
+const FIRST_BYTES: &str = " 6 first bytes of the descriptor there, by number";
+const LAST_BYTES: &str = " 6 last bytes of the descriptor there, by number";
+const START_1: &str = " 0 translated, by stage 1 start level";
+const START_2: &str = " 0 translated, by stage 2 start level";
+const HIGH: &str = "11 high capture";
+const SETTINGS: &str = "12 settings, by item";
+
+/// Stage 2's start level, with a mark if its root is of concatenated tables.
+fn start2(q: &Question) -> String {
+    let level = 2 - bits(q.vtcr_el2, 7, 6);
+    let index_bits = 64 - bits(q.vtcr_el2, 5, 0) - shift(level);
+    format!("{level}{}", if index_bits > 9 { "+" } else { "" })
+}
+
+/// Stage 1's start level in the half that a translated address picks.
+fn start1(q: &Question) -> String {
+    let low = if bits(q.address, 55, 55) == 1 { 16 } else { 0 };
+    let input_size = 64 - bits(q.tcr_el1, low + 5, low);
+    (4 - (input_size - 12 + 8) / 9).to_string()
+}
+
+impl Classes {
+    /// All classes that can exist, none of them met.
+    pub fn new() -> Classes {
+        let mut all = Classes(BTreeMap::new());
+        let levels = ["0", "1", "2", "3"];
+        for one in levels {
+            all.add(TRANSLATED, levels.map(|two| format!("{one}/{two}")));
+        }
+        // A leaf is at level 1 or below, and so is all that only a leaf can meet.
+        for (number, first) in [(1, 0), (2, 0), (3, 1), (4, 1), (6, 0), (7, 1)] {
+            for (stage, onwalk) in [(1, 0), (2, 0), (2, 1)] {
+                all.add(&stopped(number, stage, onwalk), &levels[first..]);
+            }
+        }
+        for stage in [1, 2] {
+            all.add(&stopped(5, stage, 0), ["0"]);
+        }
+        all.add(FIRST_BYTES, ["1", "2", "3", "4", "5", "6", "7"]);
+        all.add(LAST_BYTES, ["1", "2", "3", "4", "5", "6", "7"]);
+        all.add(START_1, ["0", "1", "2"]);
+        all.add(START_2, ["0", "1", "1+", "2", "2+"]);
+        all.add("10 short log", [""]);
+        all.add(HIGH, ["past 2^48", "past 2^64"]);
+        all.add(SETTINGS, ["1", "2", "3", "4", "5", "6", "7", "8", "9"]);
+        all.add("13 kind, EL or size", [""]);
+        all
+    }
+
+    fn add<T: ToString>(&mut self, row: &str, columns: impl IntoIterator<Item = T>) {
+        for column in columns {
+            self.0.insert((row.to_string(), column.to_string()), 0);
+        }
+    }
+
+    fn count(&mut self, row: &str, column: String) {
+        *self.0.entry((row.to_string(), column)).or_insert(0) += 1;
+    }
+
+    /// Counts a question under every class that it is in, by its answer.
+    pub fn meet(&mut self, q: &Question, base: u64, length: usize, words: &Words) {
+        let end = base.checked_add(length as u64);
+        match words.number {
+            0 => {
+                self.count(TRANSLATED, format!("{}/{}", words.level1, words.level2));
+                if words.level1 != 0 {
+                    self.count(START_1, start1(q));
+                }
+                if words.level2 != 0 {
+                    self.count(START_2, start2(q));
+                }
+            }
+            10 => self.count("10 short log", String::new()),
+            11 => self.count(HIGH, if end.is_some() { "past 2^48" } else { "past 2^64" }.to_string()),
+            12 => self.count(SETTINGS, words.item.to_string()),
+            13 => self.count("13 kind, EL or size", String::new()),
+            number => self.count(&stopped(number, words.stage, words.onwalk), words.level.to_string()),
+        }
+        if words.number == 6 {
+            let (first, after) = (words.address, words.address + 8);
+            if let Some(end) = end.filter(|&end| base <= first && first < end) {
+                self.count(FIRST_BYTES, (end - first).to_string());
+            } else if first < base && base < after && end >= Some(after) {
+                self.count(LAST_BYTES, (after - base).to_string());
+            }
+        }
+    }
+
+    /// Prints a line for each row.
+    pub fn print(&self) {
+        let mut last = "";
+        for ((row, column), count) in &self.0 {
+            if row != last {
+                print!("{}{row}:", if last.is_empty() { "" } else { "\n" });
+                last = row;
+            }
+            print!(" {column}{}{count}", if column.is_empty() { "" } else { "=" });
+        }
+        println!();
+    }
+
+    /// The classes that were never met.
+    pub fn missed(&self) -> Vec<String> {
+        self.0.iter().filter(|(_, &count)| count == 0).map(|((row, column), _)| format!("{row} {column}").trim().to_string()).collect()
+    }
+}

@@ -1,0 +1,410 @@
+//! Random questions that reach every class of answer: registers that pass the settings, tables to walk, then some damage.
+//! Purely random registers and memory would nearly always be refused or fault before the first read.
+use crate::random::Random;
+use crate::tables::{passing_leaf_bits, stage1_leaf_bits, stage2_leaf_bits, table_bits, Builder, Image, LENGTH};
+use crate::walk::{self, bits, Answer, Capture, Question, SIZES};
+use std::ops::Range;
+
+/// A question with its capture, which is a part of an image, and the length of its log.
+pub struct Asked {
+    pub question: Question,
+    pub part: Range<usize>,
+    pub base: u64,
+    pub log_words: usize,
+}
+
+/// Random bits, at times, where no rule of document 01 names any.
+fn unnamed(random: &mut Random, named: u64) -> u64 {
+    if random.percent(40) {
+        random.word() & random.word() & !named
+    } else {
+        0
+    }
+}
+
+/// Any access that is listed.
+fn set_access(random: &mut Random, q: &mut Question) {
+    q.kind = random.below(3);
+    q.el = random.below(2);
+    q.size = 1 << random.below(5);
+}
+
+/// Memory types of all kinds, most of them settled and Normal.
+fn mair_el1(random: &mut Random) -> u64 {
+    (0..8).fold(0, |word, _| {
+        let byte = match random.below(20) {
+            0..=2 => random.pick(&[0x00, 0x04, 0x08, 0x0c]),
+            3 => random.below(16),
+            4 => random.below(256),
+            5 => random.between(1, 15) << 4,
+            _ => random.between(1, 15) << 4 | random.between(1, 15),
+        };
+        word << 8 | byte
+    })
+}
+
+/// An IPS or PS that lets all of PAMax through, or any.
+fn output_code(random: &mut Random, pamax: u64) -> u64 {
+    let any = random.below(6);
+    if random.percent(60) {
+        SIZES.iter().position(|&size| size == pamax).map_or(any, |code| code as u64)
+    } else {
+        any
+    }
+}
+
+/// Both halves with a listed size; a half that is off may have any size and granule.
+fn tcr_el1(random: &mut Random, pamax: u64, deep: bool) -> u64 {
+    let mut tcr = 2 << 30 | output_code(random, pamax) << 32 | random.bits(2) << 37;
+    tcr |= unnamed(random, 0x3f | 1 << 7 | 3 << 14 | 0x3f << 16 | 1 << 23 | 3 << 30 | 7 << 32 | 3 << 37);
+    for low in [0, 16] {
+        if random.percent(6) {
+            tcr |= 1 << (low + 7);
+            tcr ^= random.word() & 0xc03f << low;
+        } else if deep && random.percent(70) {
+            tcr |= random.between(16, 24) << low;
+        } else if random.percent(15) {
+            // Sizes at which a contiguous block of level 1 is unsettled.
+            tcr |= random.between(31, 33) << low;
+        } else {
+            tcr |= random.between(16, 39) << low;
+        }
+    }
+    tcr
+}
+
+/// A start level that PAMax allows with a size that fits it, concatenated roots included; at times any pair.
+fn vtcr_el2(random: &mut Random, pamax: u64, deep: bool) -> u64 {
+    let rest = output_code(random, pamax) << 16 | unnamed(random, 0x7c0ff);
+    if random.percent(4) {
+        return random.between(16, 39) | random.below(4) << 6 | rest;
+    }
+    let start = if deep && random.percent(70) {
+        0
+    } else if pamax > 42 {
+        random.below(3)
+    } else {
+        random.between(1, 2)
+    };
+    let shift = walk::shift(start);
+    let (low, high) = ((shift + 1).max(25), (shift + 13).min(pamax));
+    let size = match random.below(100) {
+        0..=4 => low,
+        5..=9 => high,
+        10..=24 if start == 1 => random.between(31, 33.min(high)),
+        _ => random.between(low, high),
+    };
+    (64 - size) | (2 - start) << 6 | rest
+}
+
+/// Registers that pass the settings, with either stage on or off.
+struct Plan {
+    question: Question,
+    stage1: bool,
+    stage2: bool,
+    /// Most starts at level 0 and all leaves at level 3, for the longest walks.
+    deep: bool,
+}
+
+impl Plan {
+    fn new(random: &mut Random) -> Plan {
+        let deep = random.percent(20);
+        let pamax = if deep { random.pick(&[44, 48]) } else { random.pick(&SIZES) };
+        let (m, vm, dc) = match random.below(100) {
+            0..=54 => (1, 1, 0),
+            55..=70 => (1, 0, 0),
+            71..=84 => (0, 1, 0),
+            85..=93 => (random.one(60), random.one(50), 1),
+            _ => (0, 0, 0),
+        };
+        let (stage1, stage2) = (m == 1 && dc == 0, vm == 1 || dc == 1);
+        let mut q = Question { pamax, ..Question::default() };
+        set_access(random, &mut q);
+        q.sctlr_el1 = m | random.one(80) << 2 | random.one(80) << 12 | random.one(20) << 19;
+        q.sctlr_el1 |= unnamed(random, 1 | 1 << 2 | 1 << 12 | 1 << 19 | 1 << 25);
+        q.sctlr_el2 = unnamed(random, 1 << 25);
+        q.hcr_el2 = 1 << 31 | vm | dc << 12 | random.one(25) << 2 | random.one(15) << 32 | random.one(15) << 33;
+        q.hcr_el2 |= unnamed(random, 1 | 1 << 2 | 1 << 12 | 1 << 27 | 1 << 31 | 1 << 32 | 1 << 33);
+        q.mair_el1 = mair_el1(random);
+        // The registers of a stage that is off may hold anything.
+        q.tcr_el1 = if stage1 || random.percent(50) { tcr_el1(random, pamax, deep) } else { random.word() };
+        q.vtcr_el2 = if stage2 || random.percent(50) { vtcr_el2(random, pamax, deep) } else { random.word() };
+        q.sctlr_el1 |= if stage1 { 0 } else { random.one(10) << 25 };
+        q.sctlr_el2 |= if stage2 { 0 } else { random.one(10) << 25 };
+        Plan { question: q, stage1, stage2, deep }
+    }
+
+    /// An address in either half of stage 1 that passes the tests before the walk, the half, and its input size.
+    fn stage1_input(&self, random: &mut Random) -> (u64, bool, u64) {
+        let upper = random.percent(45);
+        let low = if upper { 16 } else { 0 };
+        // A half that is off may have a size that is not listed; any other does then.
+        let size = Some(64 - bits(self.question.tcr_el1, low + 5, low)).filter(|size| (25..=48).contains(size)).unwrap_or(39);
+        let mut address = if random.percent(5) { random.pick(&[0, u64::MAX]) >> (64 - size) } else { random.bits(size) };
+        if upper {
+            address |= u64::MAX << size;
+        }
+        let ignores_top = bits(self.question.tcr_el1, 38, 37) >> upper as u64 & 1 == 1;
+        if ignores_top && random.percent(70) {
+            address = bits(address, 55, 0) | random.bits(8) << 56;
+        }
+        (address, upper, size)
+    }
+}
+
+/// A base for tables of a given output size: few lie where an output size faults, and no end passes 2^48.
+fn table_base(random: &mut Random, output_size: u64) -> u64 {
+    let width = random.between(19, output_size);
+    let base = match random.below(10) {
+        0..=3 => 0x4000_0000,
+        4 => 0,
+        5 => (1 << output_size) - LENGTH,
+        6 => (1 << 48) - LENGTH,
+        _ => bits(random.bits(width), 47, 16) << 16,
+    };
+    if base + LENGTH > 1 << output_size && random.percent(90) {
+        return 0x4000_0000;
+    }
+    base.min((1 << 48) - LENGTH)
+}
+
+/// An address for when stage 1 is off, of a width that the rest lets through. Its top byte may be ignored.
+fn untranslated(random: &mut Random, width: u64) -> u64 {
+    if random.percent(3) {
+        return random.word();
+    }
+    let top_byte = if random.percent(30) { random.bits(8) << 56 } else { 0 };
+    random.bits(width) | top_byte
+}
+
+/// Builds the tables of a plan for an address, and sets the base registers and the address.
+fn build(random: &mut Random, image: &mut Image, plan: &mut Plan) {
+    let (address, upper, size) = plan.stage1_input(random);
+    let q = &mut plan.question;
+    let code = if plan.stage2 { bits(q.vtcr_el2, 18, 16) } else { bits(q.tcr_el1, 34, 32) };
+    image.clear(table_base(random, SIZES[code.min(5) as usize]));
+    for register in [&mut q.ttbr0_el1, &mut q.ttbr1_el1, &mut q.vttbr_el2] {
+        *register = random.word();
+    }
+    let aligned = if random.percent(70) { !(q.size - 1) } else { u64::MAX };
+    let mut builder = Builder::new(random, image, q, plan.deep);
+    if plan.stage2 {
+        q.vttbr_el2 = builder.stage2_root(q);
+    }
+    let output = if plan.stage1 {
+        q.address = address & aligned;
+        let (base_register, output) = builder.stage1(q.address, size);
+        *(if upper { &mut q.ttbr1_el1 } else { &mut q.ttbr0_el1 }) = base_register;
+        output
+    } else {
+        let width = builder.input_width(q);
+        q.address = untranslated(builder.random, width) & aligned;
+        bits(q.address, 47, 0)
+    };
+    builder.map_output(output);
+}
+
+/// Fills an image so that every word of it is a descriptor of some kind, and a walk from any root reads several.
+fn fill(random: &mut Random, image: &mut Image) {
+    let base = match random.below(4) {
+        0 => 0,
+        1 => 0x4000_0000,
+        2 => random.bits(6) << 30,
+        _ => random.bits(2) << 30,
+    };
+    image.clear(base);
+    let tables = random.between(45, 80);
+    let harm = random.below(5);
+    for address in (base..base + LENGTH).step_by(8) {
+        let page = base + random.below(LENGTH / 4096) * 4096;
+        let mut word = if random.percent(tables) {
+            page | 3 | table_bits(random) | bits(passing_leaf_bits(random), 11, 0)
+        } else {
+            let leaf = if random.percent(50) { stage1_leaf_bits(random) } else { stage2_leaf_bits(random, true) };
+            page | leaf | 1 << 6 | random.pick(&[1, 1, 3, 3, 3])
+        };
+        if random.percent(harm) {
+            flip(random, &mut word);
+        }
+        image.set(address, word);
+    }
+}
+
+/// Sets the base registers to roots in a filled image, and any address that gets past the first tests.
+fn root_anywhere(random: &mut Random, image: &Image, plan: &mut Plan) {
+    let (stage1_address, _, _) = plan.stage1_input(random);
+    let q = &mut plan.question;
+    for register in [&mut q.ttbr0_el1, &mut q.ttbr1_el1, &mut q.vttbr_el2] {
+        *register = (image.base + random.below(LENGTH)) | random.bits(16) << 48;
+    }
+    q.address = if plan.stage1 { stage1_address } else { random.bits(q.pamax) };
+    if random.percent(80) {
+        q.address &= !(q.size - 1);
+    }
+}
+
+fn flip(random: &mut Random, word: &mut u64) {
+    *word ^= 1 << random.below(64);
+}
+
+/// The address of a descriptor that the walk reads, if it reads any: damage elsewhere would seldom be met.
+fn read_address(random: &mut Random, image: &Image, q: &Question) -> Option<u64> {
+    let mut log = [0; 24];
+    match walk::ask(q, Capture { base: image.base, bytes: &image.bytes }, &mut log) {
+        Answer::Translated { reads, .. } | Answer::Stopped { reads, .. } if reads > 0 => Some(random.pick(&log[..reads])),
+        _ => None,
+    }
+}
+
+/// Changes one of the fields of a descriptor that a rule names, or any bit.
+fn damage_descriptor(random: &mut Random, image: &mut Image, q: &Question) {
+    let at =
+        if random.percent(75) { read_address(random, image, q) } else { (!image.written.is_empty()).then(|| random.pick(&image.written)) };
+    if let Some(at) = at {
+        let mut word = image.get(at);
+        match random.below(10) {
+            0 => word = random.word(),
+            1 => word = word & !3 | random.bits(2),
+            2 => word ^= 1 << 10,
+            3 => word ^= 1 << random.between(30, 47),
+            4 => word ^= random.bits(3) << 6,
+            5 => word ^= random.bits(8) << 2,
+            6 => word ^= 1 << random.between(52, 62),
+            _ => flip(random, &mut word),
+        }
+        image.set(at, word);
+    }
+}
+
+/// Changes a field of a register that a rule names, or any bit.
+fn damage_register(random: &mut Random, q: &mut Question) {
+    match random.below(14) {
+        0 => flip(random, &mut q.sctlr_el1),
+        1 => flip(random, &mut q.tcr_el1),
+        2 => flip(random, &mut q.ttbr0_el1),
+        3 => flip(random, &mut q.ttbr1_el1),
+        4 => flip(random, &mut q.mair_el1),
+        5 => flip(random, &mut q.hcr_el2),
+        6 => flip(random, &mut q.vtcr_el2),
+        7 => flip(random, &mut q.vttbr_el2),
+        8 => flip(random, &mut q.sctlr_el2),
+        9 => q.tcr_el1 ^= random.pick(&[7 << 32, 0x3f, 0x3f << 16, 3 << 14, 3 << 30, 1 << 7, 1 << 23, 3 << 37]) & random.word(),
+        10 => q.vtcr_el2 ^= random.pick(&[7 << 16, 0x3f, 3 << 14, 3 << 6]) & random.word(),
+        11 => q.hcr_el2 ^= 1 << random.pick(&[0u64, 2, 12, 27, 31, 32, 33]),
+        12 => q.sctlr_el1 ^= 1 << random.pick(&[0u64, 2, 12, 19, 25]),
+        _ => q.sctlr_el2 ^= 1 << 25,
+    }
+}
+
+/// Another PAMax, or a number that is not listed. Some of these would be listed if their high bits were dropped.
+fn damage_number(random: &mut Random, q: &mut Question) {
+    let unlisted = random.pick(&[2, 3, 4, 5, 16, 256, 1 << 32, 1 << 63, u64::MAX]);
+    match random.below(6) {
+        0 => q.pamax = random.pick(&[0, 31, 33, 35, 39, 41, 43, 45, 47, 49, 52, 64, 48 << 8, 1 << 32 | 48, u64::MAX]),
+        1 => q.pamax = random.pick(&SIZES),
+        2 => q.kind = unlisted,
+        3 => q.el = unlisted,
+        _ => q.size = random.pick(&[0, 3, 5, 6, 7, 9, 12, 15, 17, 24, 32, 64, 1 << 32 | 8, u64::MAX]),
+    }
+}
+
+/// Cuts the capture, from either end, at any byte of a descriptor that is read, or anywhere.
+fn cut(random: &mut Random, image: &Image, asked: &mut Asked) {
+    let read = read_address(random, image, &asked.question).filter(|_| random.percent(90));
+    let at = read.map_or_else(|| random.below(LENGTH + 1), |address| address - image.base);
+    let cut = (at + random.below(9)).min(LENGTH) as usize;
+    if random.percent(50) {
+        asked.part.end = cut.max(asked.part.start);
+    } else {
+        asked.part.start = cut.min(asked.part.end);
+    }
+    asked.base = image.base + asked.part.start as u64;
+}
+
+/// Moves the capture so that its end is at 2^48, past it, or past 2^64. Some have few bytes or none.
+fn move_capture(random: &mut Random, asked: &mut Asked) {
+    let length = random.pick(&[0, 1, 7, 8, 9, 4096, LENGTH as usize]).min(asked.part.len());
+    asked.part.end = asked.part.start + length;
+    let length = length as u64;
+    asked.base = match random.below(7) {
+        0 => (1 << 48) - length,
+        1 => (1 << 48) - length + 1,
+        2 => (1 << 48) - 1,
+        3 => (1 << 48) + random.below(2),
+        4 => u64::MAX - random.below(3),
+        5 => 0u64.wrapping_sub(length),
+        _ => random.word(),
+    };
+}
+
+/// Asks the question with up to three things changed in it, in its tables, its capture or its log.
+fn damage(random: &mut Random, image: &mut Image, question: Question) -> Asked {
+    let mut asked = Asked { question, part: 0..LENGTH as usize, base: image.base, log_words: 24 };
+    for _ in 0..random.pick(&[0, 0, 0, 1, 1, 1, 1, 2, 3]) {
+        match random.below(100) {
+            0..=44 => damage_descriptor(random, image, &asked.question),
+            45..=66 => damage_register(random, &mut asked.question),
+            67..=74 => damage_number(random, &mut asked.question),
+            75..=79 => flip(random, &mut asked.question.address),
+            80..=82 => asked.question.address = random.word(),
+            83..=86 => asked.log_words = random.below(40) as usize,
+            87..=95 => cut(random, image, &mut asked),
+            _ => move_capture(random, &mut asked),
+        }
+    }
+    asked
+}
+
+/// Questions without end, determined by the seed.
+pub struct Questions {
+    random: Random,
+    built: Image,
+    filled: Image,
+    plan: Plan,
+    /// How many more questions are asked of the image that was built, and of the one that was filled.
+    of_built: u64,
+    of_filled: u64,
+}
+
+impl Questions {
+    pub fn new(seed: u64) -> Questions {
+        let mut random = Random::new(seed);
+        let plan = Plan::new(&mut random);
+        Questions { random, built: Image::new(), filled: Image::new(), plan, of_built: 0, of_filled: 0 }
+    }
+
+    /// The next question, and the image that its capture is a part of.
+    pub fn next(&mut self) -> (&Image, Asked) {
+        if self.random.percent(40) {
+            self.next_of_filled()
+        } else {
+            self.next_of_built()
+        }
+    }
+
+    fn next_of_filled(&mut self) -> (&Image, Asked) {
+        if self.of_filled == 0 {
+            fill(&mut self.random, &mut self.filled);
+            self.of_filled = 4096;
+        }
+        self.of_filled -= 1;
+        let mut plan = Plan::new(&mut self.random);
+        root_anywhere(&mut self.random, &self.filled, &mut plan);
+        let asked = damage(&mut self.random, &mut self.filled, plan.question);
+        (&self.filled, asked)
+    }
+
+    /// Tables once built are asked of by several accesses, of which each adds to the damage.
+    fn next_of_built(&mut self) -> (&Image, Asked) {
+        if self.of_built == 0 {
+            self.plan = Plan::new(&mut self.random);
+            build(&mut self.random, &mut self.built, &mut self.plan);
+            self.of_built = 4;
+        } else {
+            set_access(&mut self.random, &mut self.plan.question);
+        }
+        self.of_built -= 1;
+        let asked = damage(&mut self.random, &mut self.built, self.plan.question);
+        (&self.built, asked)
+    }
+}

@@ -1,0 +1,214 @@
+//! Compares the proved function with an independent walk, and both with answers from outside.
+mod classes;
+mod generate;
+mod proved;
+mod random;
+mod tables;
+mod vectors;
+mod walk;
+
+use classes::Classes;
+use generate::Questions;
+use proved::Words;
+use std::process::ExitCode;
+use std::time::{Duration, Instant};
+use vectors::{answer_text, log_text, question_text, Line};
+use walk::{Capture, Question};
+
+const USAGE: &str = "\
+compare vectors FILE..      hold the walk and the proved function to the answers of files
+compare random COUNT SEED   compare the proved function with the walk on COUNT random questions, which SEED determines
+The last line is 'N compared, M differ'. Exit status 0 exactly when M is 0, vectors were read, and no class of questions
+was missed by 200,000 random ones or more; 2 for bad arguments.";
+
+/// From this many random questions on, a class that is missed is an error.
+const ALL_CLASSES: u64 = 200_000;
+
+/// Disagreements printed in full: after a gross error there would be many thousands.
+const PRINTED: u64 = 20;
+
+/// Words before and after the log, to see a write outside of it.
+const GUARD: usize = 8;
+
+/// The answer of one of the two, and the log that it left, with the guards around it.
+struct Reply {
+    words: Words,
+    log: Vec<u64>,
+}
+
+impl Reply {
+    /// Asks with the same words in and around the log each time.
+    fn new(log_words: usize, ask: impl FnOnce(&mut [u64]) -> Words) -> Reply {
+        let mut log = pattern(GUARD + log_words + GUARD);
+        let words = ask(&mut log[GUARD..GUARD + log_words]);
+        Reply { words, log }
+    }
+
+    /// The part of the log that the count covers.
+    fn reads(&self) -> &[u64] {
+        let within = (self.log.len() - 2 * GUARD) as u64;
+        &self.log[GUARD..GUARD + self.words.reads.min(within) as usize]
+    }
+
+    /// Whether all words but those that the count covers are as they were.
+    fn kept(&self) -> bool {
+        let before = pattern(self.log.len());
+        let after = GUARD + self.reads().len();
+        self.log[..GUARD] == before[..GUARD] && self.log[after..] == before[after..]
+    }
+
+    fn print(&self, name: &str) {
+        println!("  {name}: {} | {}", answer_text(&self.words), log_text(self.reads()));
+    }
+}
+
+/// Words that are no address of a descriptor, all different.
+fn pattern(length: usize) -> Vec<u64> {
+    (0..length as u64).map(|at| 0xfeed_face_0000_0000 + at).collect()
+}
+
+/// Both replies to one question.
+struct Compared {
+    walk: Reply,
+    proved: Reply,
+}
+
+impl Compared {
+    fn new(q: &Question, capture: Capture, log_words: usize) -> Compared {
+        let walk = Reply::new(log_words, |log| walk::ask(q, capture, log).into());
+        let proved = Reply::new(log_words, |log| proved::ask(q, capture, log));
+        Compared { walk, proved }
+    }
+
+    /// Why the two do not agree in all that can be seen, if they do not.
+    fn difference(&self, capture_kept: bool) -> Option<&'static str> {
+        if self.walk.words != self.proved.words {
+            Some("the answers differ")
+        } else if self.walk.log != self.proved.log {
+            Some("the logs differ")
+        } else if !self.proved.kept() {
+            Some("a word outside of the reads was written")
+        } else if !capture_kept {
+            Some("the capture was written")
+        } else {
+            None
+        }
+    }
+
+    fn print(&self) {
+        self.walk.print("walk  ");
+        self.proved.print("proved");
+        if answer_text(&self.walk.words) == answer_text(&self.proved.words) {
+            println!("  walk  : {:x?}\n  proved: {:x?}", self.walk.words, self.proved.words);
+        }
+    }
+}
+
+/// Holds both to one line; why it does not hold, if it does not.
+fn hold(text: &str) -> Option<(&'static str, Option<Compared>)> {
+    let line = match Line::read(text) {
+        Some(line) => line,
+        None => return Some(("the line cannot be read", None)),
+    };
+    let before = line.bytes.clone();
+    let both = Compared::new(&line.question, Capture { base: line.base, bytes: &line.bytes }, line.log_words);
+    let agrees = |reply: &Reply| line.agrees(&reply.words, reply.reads());
+    let why = match (agrees(&both.walk), agrees(&both.proved)) {
+        (true, true) => both.difference(line.bytes == before)?,
+        (false, true) => "the walk differs",
+        (true, false) => "the proved function differs",
+        (false, false) => "both differ",
+    };
+    Some((why, Some(both)))
+}
+
+fn hold_vectors(files: &[String]) -> ExitCode {
+    let (mut compared, mut differ) = (0u64, 0u64);
+    for file in files {
+        let text = match std::fs::read_to_string(file) {
+            Ok(text) => text,
+            Err(error) => {
+                eprintln!("compare: {file}: {error}");
+                return ExitCode::from(2);
+            }
+        };
+        let passed_over = |line: &str| line.trim().is_empty() || line.starts_with('#') || line.starts_with("audit ");
+        for line in text.lines().filter(|line| !passed_over(line)) {
+            compared += 1;
+            if let Some((why, both)) = hold(line) {
+                differ += 1;
+                println!("{why}: {line}");
+                if let Some(both) = both {
+                    both.print();
+                }
+            }
+        }
+    }
+    println!("{compared} compared, {differ} differ");
+    if differ == 0 && compared > 0 {
+        ExitCode::SUCCESS
+    } else {
+        ExitCode::FAILURE
+    }
+}
+
+/// Prints a question on which the two differ as a line of the vectors, with the walk's answer, and then both replies.
+/// Of the capture it has the words that either read: no others can matter to a walk.
+fn print_difference(q: &Question, capture: Capture, log_words: usize, both: &Compared, why: &str) {
+    let mut read = [both.walk.reads(), both.proved.reads()].concat();
+    read.sort_unstable();
+    read.dedup();
+    let question = question_text(q, capture, log_words, &read);
+    println!("{why}: {question} | {} | {}", answer_text(&both.walk.words), log_text(both.walk.reads()));
+    both.print();
+}
+
+fn compare_random(count: u64, seed: u64) -> ExitCode {
+    let mut questions = Questions::new(seed);
+    let mut classes = Classes::new();
+    let mut differ = 0;
+    let mut reported = Instant::now();
+    for compared in 0..count {
+        let (image, asked) = questions.next();
+        let q = &asked.question;
+        let capture = Capture { base: asked.base, bytes: &image.bytes[asked.part.clone()] };
+        let both = Compared::new(q, capture, asked.log_words);
+        classes.meet(q, capture.base, capture.bytes.len(), &both.walk.words);
+        if let Some(why) = both.difference(image.bytes == image.copy) {
+            differ += 1;
+            if differ <= PRINTED {
+                print_difference(q, capture, asked.log_words, &both, why);
+            }
+        }
+        if reported.elapsed() > Duration::from_secs(10) {
+            eprintln!("compare: {compared} of {count} compared, {differ} differ");
+            reported = Instant::now();
+        }
+    }
+    classes.print();
+    let missed = if count >= ALL_CLASSES { classes.missed() } else { Vec::new() };
+    for class in &missed {
+        println!("missed: {class}");
+    }
+    println!("{count} compared, {differ} differ");
+    if differ == 0 && missed.is_empty() {
+        ExitCode::SUCCESS
+    } else {
+        ExitCode::FAILURE
+    }
+}
+
+fn main() -> ExitCode {
+    let args: Vec<String> = std::env::args().skip(1).collect();
+    match args.iter().map(String::as_str).collect::<Vec<_>>().as_slice() {
+        ["vectors", _, ..] => return hold_vectors(&args[1..]),
+        ["random", count, seed] => {
+            if let (Ok(count @ 1..), Ok(seed)) = (count.parse(), seed.parse()) {
+                return compare_random(count, seed);
+            }
+        }
+        _ => {}
+    }
+    eprintln!("{USAGE}");
+    ExitCode::from(2)
+}
