@@ -26,10 +26,13 @@ returns-2 c =
 
 returns-3 : tie.Need-returns-3
 returns-3 c =
-    let z = c .before .before .before .before .before .before .before .args in (
-      rw (c .before .of-question .ensures)
+    let settings = c .before in
+    let capture = settings .before .before in
+    let z = capture .before .before .before .before .args in (
+      rw (settings .of-question .ensures)
           (tells-refused _ _ _ _ _ _ _
-          (refused-12 (length (z .log .now)) (z .base) (length (z .bytes .now)) (z .r) (z .g) (z .a) (le-ltb _ _ (c .before .before .before .before .if1 .left)) (sym (c .before .before .before .high-capture .ensures) ∙ c .before .before .if2 .left) (ne-eqb _ _ (λ e. c .if3 .taken (c .before .of-question .ensures ∙ e))))),
+          (refused-12 (length (z .log .now)) (z .base) (length (z .bytes .now)) (z .r) (z .g) (z .a) (le-ltb _ _ (capture .before .if1 .left))
+          (sym (capture .high-capture .ensures) ∙ settings .before .if2 .left) (ne-eqb _ _ (λ e. c .if3 .taken (settings .of-question .ensures ∙ e))))),
       (counts _ _ _ _ _ _, λ other. framing _ _ _ _ _ _ _),
     )
 
@@ -44,21 +47,30 @@ access-requires c κs =
 
 returns-4 : tie.Need-returns-4
 returns-4 c =
-    let z = c .before .before .before .before .before .before .before .before .before .before .before .before .before .before .before .before .args in
-    let x = c .before .before .before .access .ensures in (
+    let ran = c .before .before .before in
+    let stages = ran .before .before in
+    let listed = stages .before .before .before in
+    let settings = listed .before .before in
+    let capture = settings .before .before in
+    let z = capture .before .before .before .before .args in (
       tells-ran _ _ _ _ _ _ _ _ _ _
-          (unrefused (length (z .log .now)) (z .base) (length (z .bytes .now)) (z .r) (z .g) (z .a) (le-ltb _ _ (c .before .before .before .before .before .before .before .before .before .before .before .before .before .if1 .left)) (sym (c .before .before .before .before .before .before .before .before .before .before .before .before .high-capture .ensures) ∙ c .before .before .before .before .before .before .before .before .before .before .before .if2 .left)
-          (eq-eqb _ _ (sym (c .before .before .before .before .before .before .before .before .before .before .of-question .ensures) ∙ c .before .before .before .before .before .before .before .before .before .if3 .left)) (sym (c .before .before .before .before .before .before .before .before .listed .ensures) ∙ c .before .before .before .before .before .before .before .if4 .taken))
-          (rw (c .before .before .before .before .before .before .stage1 .ensures, c .before .before .before .before .before .stage2 .ensures) at (x .0)) (c .answered .ensures),
+          (unrefused (length (z .log .now)) (z .base) (length (z .bytes .now)) (z .r) (z .g) (z .a) (le-ltb _ _ (capture .before .if1 .left))
+          (sym (capture .high-capture .ensures) ∙ settings .before .if2 .left) (eq-eqb _ _ (sym (settings .of-question .ensures) ∙ listed .before .if3 .left))
+          (sym (listed .listed .ensures) ∙ stages .before .before .if4 .taken))
+          (rw (stages .before .stage1 .ensures, stages .stage2 .ensures) at (ran .access .ensures .0)) (c .answered .ensures),
       (counts _ _ _ _ _ _, λ other. framing _ _ _ _ _ _ _),
     )
 
 returns-5 : tie.Need-returns-5
 returns-5 c =
-    let z = c .before .before .before .before .before .before .before .before .before .args in (
+    let listed = c .before in
+    let settings = listed .before .before in
+    let capture = settings .before .before in
+    let z = capture .before .before .before .before .args in (
       tells-refused _ _ _ _ _ _ _
-          (refused-13 (length (z .log .now)) (z .base) (length (z .bytes .now)) (z .r) (z .g) (z .a) (le-ltb _ _ (c .before .before .before .before .before .before .if1 .left)) (sym (c .before .before .before .before .before .high-capture .ensures) ∙ c .before .before .before .before .if2 .left)
-          (eq-eqb _ _ (sym (c .before .before .before .of-question .ensures) ∙ c .before .before .if3 .left)) (sym (c .before .listed .ensures) ∙ c .if4 .left)),
+          (refused-13 (length (z .log .now)) (z .base) (length (z .bytes .now)) (z .r) (z .g) (z .a) (le-ltb _ _ (capture .before .if1 .left))
+          (sym (capture .high-capture .ensures) ∙ settings .before .if2 .left) (eq-eqb _ _ (sym (settings .of-question .ensures) ∙ listed .before .if3 .left))
+          (sym (listed .listed .ensures) ∙ c .if4 .left)),
       (counts _ _ _ _ _ _, λ other. framing _ _ _ _ _ _ _),
     )
 

@@ -20,14 +20,17 @@ finish-requires c κs =
 
 returns : tie.Need-returns
 returns c =
-    let t = c .before .before .before .before .before .before .before .before .before .translate1 .ensures in
-    let f = c .before .before .finish .ensures in
-    (ran-access _ _ _ _ _ (rw (c .before .before .before .before .before .before .before .before .before .before .before .root1-at .ensures, c .before .before .before .before .before .checked .given .1) at (t .0)) (f .0), omega (arith, t .1, f .1))
+    let f = c .before .before in
+    let passed = f .before .before .before in
+    let t = passed .before .before .before .before in (
+      ran-access _ _ _ _ _ (rw (t .before .before .root1-at .ensures, passed .checked .given .1) at (t .translate1 .ensures .0)) (f .finish .ensures .0),
+      omega (arith, t .translate1 .ensures .1, f .finish .ensures .1),
+    )
 
 returns-2 : tie.Need-returns-2
 returns-2 c =
-    let t = c .before .before .before .before .before .translate1 .ensures in
-    (ran-access-stopped _ _ _ _ _ (rw (c .before .before .before .before .before .before .before .root1-at .ensures, c .before .checked2 .given .1) at (t .0)), omega (arith, t .1))
+    let t = c .before .before .before .before .before in
+    (ran-access-stopped _ _ _ _ _ (rw (t .before .before .root1-at .ensures, c .before .checked2 .given .1) at (t .translate1 .ensures .0)), omega (arith, t .translate1 .ensures .1))
 
 pub access-spec : {M : Type 1} → statement M
 access-spec =

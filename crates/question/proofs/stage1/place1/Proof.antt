@@ -8,13 +8,13 @@ use Rattle.question.proofs.stage1.place1.Tie as tie
 
 returns : tie.Need-returns
 returns c =
-    let t = c .before .before .before .before .before .translate2 .ensures in
-    (ran-placed _ _ _ _ (c .before .before .before .before .before .before .before .if1 .taken) _ (rw (c .before .checked .given .1) at (t .0)), t .1)
+    let t = c .before .before .before .before .before in
+    (ran-placed _ _ _ _ (t .before .before .if1 .taken) _ (rw (c .before .checked .given .1) at (t .translate2 .ensures .0)), t .translate2 .ensures .1)
 
 returns-2 : tie.Need-returns-2
 returns-2 c =
-    let t = c .before .before .before .before .before .translate2 .ensures in
-    (ran-place-stopped _ _ _ _ (c .before .before .before .before .before .before .before .if1 .taken) _ (rw (c .before .checked2 .given .1) at (t .0)), t .1)
+    let t = c .before .before .before .before .before in
+    (ran-place-stopped _ _ _ _ (t .before .before .if1 .taken) _ (rw (c .before .checked2 .given .1) at (t .translate2 .ensures .0)), t .translate2 .ensures .1)
 
 pub place1-spec : {M : Type 1} → statement M
 place1-spec =

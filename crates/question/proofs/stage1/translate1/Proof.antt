@@ -17,15 +17,23 @@ returns c = (ran-unusable1 _ _ _ _ _ (c .before .before .before .if1 .taken) _ _
 
 returns-2 : tie.Need-returns-2
 returns-2 c =
-    let w = c .before .before .before .before .before .before .walk1 .ensures in
-    let small = rw (c .before .before .before .before .before .before .before .before .before .root2 .given .1) at (c .before .before .before .before .before .before .before .before .before .before .before .before .before .before .pre .0 (c .before .before .before .before .before .before .before .before .before .before .before .if1 .taken)) in
-    (ran-walk1-checked _ _ _ _ _ (c .before .before .before .before .before .before .before .before .before .before .before .if1 .taken) (c .before .before .before .before .before .before .before .before .before .root2 .given .1) _ _ (rw (c .before .before .walked .given .1) at (w .0)) (c .check1 .ensures), omega (arith, small .levels, w .1))
+    let w = c .before .before .before .before .before .before in
+    let r = w .before .before .before in
+    let on = r .before .before .if1 .taken in
+    let small = rw (r .root2 .given .1) at (r .before .before .before .before .before .pre .0 on) in (
+      ran-walk1-checked _ _ _ _ _ on (r .root2 .given .1) _ _ (rw (c .before .before .walked .given .1) at (w .walk1 .ensures .0)) (c .check1 .ensures),
+      omega (arith, small .levels, w .walk1 .ensures .1),
+    )
 
 returns-3 : tie.Need-returns-3
 returns-3 c =
-    let w = c .before .before .before .before .before .walk1 .ensures in
-    let small = rw (c .before .before .before .before .before .before .before .before .root2 .given .1) at (c .before .before .before .before .before .before .before .before .before .before .before .before .before .pre .0 (c .before .before .before .before .before .before .before .before .before .before .if1 .taken)) in
-    (ran-walk1-stopped _ _ _ _ _ (c .before .before .before .before .before .before .before .before .before .before .if1 .taken) (c .before .before .before .before .before .before .before .before .root2 .given .1) _ (rw (c .before .walked2 .given .1) at (w .0)), omega (arith, small .levels, w .1))
+    let w = c .before .before .before .before .before in
+    let r = w .before .before .before in
+    let on = r .before .before .if1 .taken in
+    let small = rw (r .root2 .given .1) at (r .before .before .before .before .before .pre .0 on) in (
+      ran-walk1-stopped _ _ _ _ _ on (r .root2 .given .1) _ (rw (c .before .walked2 .given .1) at (w .walk1 .ensures .0)),
+      omega (arith, small .levels, w .walk1 .ensures .1),
+    )
 
 pub translate1-spec : {M : Type 1} → statement M
 translate1-spec =

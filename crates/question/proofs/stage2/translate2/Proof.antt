@@ -20,18 +20,22 @@ returns-2 c = (ran-unusable _ _ _ _ _ (sym (c .before .before .before .before .b
 
 returns-3 : tie.Need-returns-3
 returns-3 c =
-    let small = rw (c .before .before .before .before .before .before .before .before .before .root2 .given .1) at (c .before .before .before .before .before .before .before .before .before .before .before .before .before .before .before .pre .0) in
-    let w = c .before .before .before .before .before .before .walk2 .ensures in (
-      ran-walk-checked _ _ _ _ _ (sym (c .before .before .before .before .before .before .before .before .before .before .before .before .beyond .ensures) ∙ c .before .before .before .before .before .before .before .before .before .before .before .if1 .left) (c .before .before .before .before .before .before .before .before .before .root2 .given .1) _ _ (rw (c .before .before .walked .given .1) at (w .0)) (c .check2 .ensures),
-      omega (arith, small .levels, w .1),
+    let w = c .before .before .before .before .before .before in
+    let r = w .before .before .before in
+    let small = rw (r .root2 .given .1) at (r .before .before .before .before .before .before .pre .0) in (
+      ran-walk-checked _ _ _ _ _ (sym (r .before .before .before .beyond .ensures) ∙ r .before .before .if1 .left) (r .root2 .given .1) _ _
+          (rw (c .before .before .walked .given .1) at (w .walk2 .ensures .0)) (c .check2 .ensures),
+      omega (arith, small .levels, w .walk2 .ensures .1),
     )
 
 returns-4 : tie.Need-returns-4
 returns-4 c =
-    let small = rw (c .before .before .before .before .before .before .before .before .root2 .given .1) at (c .before .before .before .before .before .before .before .before .before .before .before .before .before .before .pre .0) in
-    let w = c .before .before .before .before .before .walk2 .ensures in (
-      ran-walk-stopped _ _ _ _ _ (sym (c .before .before .before .before .before .before .before .before .before .before .before .beyond .ensures) ∙ c .before .before .before .before .before .before .before .before .before .before .if1 .left) (c .before .before .before .before .before .before .before .before .root2 .given .1) _ (rw (c .before .walked2 .given .1) at (w .0)),
-      omega (arith, small .levels, w .1),
+    let w = c .before .before .before .before .before in
+    let r = w .before .before .before in
+    let small = rw (r .root2 .given .1) at (r .before .before .before .before .before .before .pre .0) in (
+      ran-walk-stopped _ _ _ _ _ (sym (r .before .before .before .beyond .ensures) ∙ r .before .before .if1 .left) (r .root2 .given .1) _
+          (rw (c .before .walked2 .given .1) at (w .walk2 .ensures .0)),
+      omega (arith, small .levels, w .walk2 .ensures .1),
     )
 
 pub translate2-spec : {M : Type 1} → statement M
