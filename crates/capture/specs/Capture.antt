@@ -3,8 +3,8 @@
 use mathlib.Core.Path.{_≡_}
 use mathlib.Core.Bool.{Bool, _&&_}
 use mathlib.Core.List.{List, [], _∷_}
-use Prim.Native.Nat.{ℕ, _+_, _-_, _*_, _<_}
-use lib.Dec.{leb}
+use Prim.Native.Nat.{ℕ, _+_, _-_, _*_, _^_, _<_}
+use lib.Dec.{leb, ltb}
 use lib.ListN.{take, drop, getD}
 use Rattle.bits.specs.Bits.{pick}
 use Rattle.descriptor.specs.Program.{Request}
@@ -27,6 +27,10 @@ memory base length bytes q =
     pick (within base length (q .address))
     (Word (little (take 8 (drop (q .address - base) bytes))))
     Absent
+
+-- its end lies past 2^48 (01, Answer numbers, 11). The sum is one of unbounded numbers.
+abbrev pub endsHigh : (base length : ℕ) → Bool
+endsHigh base length = ltb (2 ^ 48) (base + length)
 
 -- two captures at base have the same bytes from an address on, n of them
 abbrev pub SameBytes : (base : ℕ) (bytes bytes′ : List ℕ) (address n : ℕ) → Type 0

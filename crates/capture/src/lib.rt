@@ -3,7 +3,7 @@ ghost use mathlib.Core.Path.{_≡_};
 ghost use Prim.Native.Nat.{_+_, _*_, _≤_, _<_};
 ghost use lib.ListN.{length, getD};
 ghost use Rattle.descriptor.specs.Program.{Reader};
-ghost use Rattle.capture.specs.Capture.{memory};
+ghost use Rattle.capture.specs.Capture.{memory, endsHigh};
 use descriptor::entry::Fetch;
 
 // A byte as a word.
@@ -50,5 +50,17 @@ pub fn fetch(bytes: &[u8], base: u64, address: u64) -> Fetch
         }
     } else {
         Fetch::Absent
+    }
+}
+
+// The capture's end lies past 2^48. No sum wraps.
+pub fn ends_high(base: u64, length: u64) -> bool
+    ensures { λ r. ⌜ r ≡ endsHigh base length ⌝ }
+{
+    let top = 0x1_0000_0000_0000;
+    if base <= top {
+        top - base < length
+    } else {
+        true
     }
 }

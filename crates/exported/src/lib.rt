@@ -1,6 +1,5 @@
 // The question as a call on numbers and byte slices, for programs in C and Rust.
 use access::Access;
-use attributes::Cacheability;
 use attributes::MemoryType;
 use attributes::Shareability;
 use descriptor::entry::FaultKind;
@@ -15,8 +14,6 @@ use walk::answer::Refusal;
 use walk::answer::Stage;
 use walk::answer::Translation;
 ghost use mathlib.Core.Path.{_≡_};
-ghost use Prim.Native.Nat.{_≤_};
-ghost use Rattle.attributes.specs.Attributes as Memories;
 ghost use Rattle.walk.specs.Answers.{faultNumber, refusalNumber, stageNumber};
 ghost use Rattle.exported.specs.Words as Numbers;
 

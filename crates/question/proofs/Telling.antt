@@ -1,14 +1,13 @@
 -- What a call gives where a question is refused, and where it is not.
 -- Assumes nothing.
-use mathlib.Core.Path.{_≡_, refl, sym, ap, ap₂, _∙_}
-use mathlib.Core.Bool.{Bool, true, false}
+use mathlib.Core.Path.{_≡_, sym, ap, ap₂, _∙_}
+use mathlib.Core.Bool.{true, false}
 use mathlib.Core.List.{List}
 use mathlib.Core.Option.{some, none}
-use Prim.Native.Nat.{ℕ, _+_, _-_, _^_, _≤_, _<_}
+use Prim.Native.Nat.{ℕ, _+_, _-_, _^_}
 use native.Mathlib.Omega.{arith}
 use lib.Dec.{ltb, eqb}
 use lib.ListN.{length}
-use borrow.Author.Tests.{ltb-true, ltb-false, lt-ltb, le-ltb}
 use Rattle.bits.specs.Bits.{pick}
 use Rattle.descriptor.specs.Program.{Outcome, reads}
 use Rattle.access.specs.Access.{listed}
@@ -30,20 +29,6 @@ use Rattle.question.specs.Refusals.{refuse}
 use Rattle.question.specs.Question.{refusal, told, ask, Tells}
 use Rattle.question.specs.Ran.{Ran}
 use Rattle.question.proofs.Counts.{is-access, counts}
-
--- the room above base is less than the length exactly where the end lies past 2^48
-pub past-top : (base length : ℕ) → base ≤ 2 ^ 48 → ltb (2 ^ 48 - base) length ≡ ltb (2 ^ 48) (base + length)
-past-top base length h = by-test (ltb (2 ^ 48 - base) length) refl
-  where
-    by-test : (b : Bool) → ltb (2 ^ 48 - base) length ≡ b → ltb (2 ^ 48 - base) length ≡ ltb (2 ^ 48) (base + length)
-    by-test true e =
-        let p : 2 ^ 48 - base < length = ltb-true _ _ e in
-        let q : 2 ^ 48 < base + length = omega arith in
-        e ∙ sym (lt-ltb _ _ q)
-    by-test false e =
-        let p : length ≤ 2 ^ 48 - base = ltb-false _ _ e in
-        let q : base + length ≤ 2 ^ 48 = omega arith in
-        e ∙ sym (le-ltb _ _ q)
 
 -- ---- which refusal
 

@@ -2,9 +2,10 @@
 -- Assumes nothing.
 use mathlib.Core.Bool.{Bool, not}
 use mathlib.Core.List.{List, [], _∷_}
-use Prim.Native.Nat.{ℕ, _+_, _^_}
-use lib.Dec.{ltb, eqb}
+use Prim.Native.Nat.{ℕ}
+use lib.Dec.{eqb}
 use Rattle.bits.specs.Bits.{pick}
+use Rattle.capture.specs.Capture.{endsHigh}
 use Rattle.walk.specs.declared.answer.Refusal.{Refusal}
 use Rattle.walk.specs.declared.answer.Refusal.the-variants.{HighCapture, Settings}
 
@@ -18,9 +19,9 @@ unfoldable pub refuse : {A : Type 0} → (Refusal → A) → List Ground → A �
 refuse f [] x = x
 refuse f (g ∷ l) x = pick (g .holds) (f (g .refusal)) (refuse f l x)
 
--- 11. The sum is one of unbounded numbers.
+-- 11
 abbrev pub highCapture : (base length : ℕ) → Ground
-highCapture base length = record { holds = ltb (2 ^ 48) (base + length); refusal = HighCapture }
+highCapture base length = record { holds = endsHigh base length; refusal = HighCapture }
 
 -- 12, with the first failing item, 0 if none fails
 abbrev pub failing : (item : ℕ) → Ground

@@ -8,9 +8,7 @@ use walk::answer::Stop;
 use walk::stage::Reached;
 ghost use mathlib.Core.Path.{_≡_};
 ghost use mathlib.Core.List.{List};
-ghost use Prim.Native.Nat.{ℕ, _+_, _^_};
-ghost use lib.Dec.{ltb};
-ghost use lib.ListN.{length};
+ghost use Prim.Native.Nat.{ℕ};
 ghost use Rattle.walk.specs.Answers as Answers;
 ghost use Rattle.question.specs.Ran.{arrived};
 ghost use Rattle.question.specs.Question.{ask, Tells};
@@ -25,18 +23,6 @@ mod table;
 
 // The words that a log must have.
 pub const LOG_WORDS: usize = 24;
-
-// The capture's end lies past 2^48. No sum wraps.
-pub fn high_capture(base: u64, length: u64) -> bool
-    ensures { λ r. ⌜ r ≡ ltb (2 ^ 48) (base + length) ⌝ }
-{
-    let top = 0x1_0000_0000_0000;
-    if base <= top {
-        top - base < length
-    } else {
-        true
-    }
-}
 
 // The answer of an access after some reads.
 fn answered(reached: Reached, reads: u64) -> Answer
@@ -64,7 +50,7 @@ pub fn translate(bytes: &[u8], base: u64, r: El2, g: El1, a: Access, log: &mut [
     if log.len() < LOG_WORDS {
         return Answer::Refused(Refusal::ShortLog);
     }
-    if high_capture(base, bytes.len() as u64) {
+    if capture::ends_high(base, bytes.len() as u64) {
         return Answer::Refused(Refusal::HighCapture);
     }
     let item = settings::of_question(r, g);

@@ -20,7 +20,7 @@ returns c =
 returns-2 : tie.Need-returns-2
 returns-2 c =
     let z = c .before .before .before .before .before .args in (
-      tells-refused _ _ _ _ _ _ _ (refused-11 (length (z .log .now)) (z .base) (length (z .bytes .now)) (z .r) (z .g) (z .a) (le-ltb _ _ (c .before .before .if1 .left)) (sym (c .before .high-capture .ensures) ∙ c .if2 .taken)),
+      tells-refused _ _ _ _ _ _ _ (refused-11 (length (z .log .now)) (z .base) (length (z .bytes .now)) (z .r) (z .g) (z .a) (le-ltb _ _ (c .before .before .if1 .left)) (sym (c .before .ends-high .ensures) ∙ c .if2 .taken)),
       (counts _ _ _ _ _ _, λ other. framing _ _ _ _ _ _ _),
     )
 
@@ -32,7 +32,7 @@ returns-3 c =
       rw (settings .of-question .ensures)
           (tells-refused _ _ _ _ _ _ _
           (refused-12 (length (z .log .now)) (z .base) (length (z .bytes .now)) (z .r) (z .g) (z .a) (le-ltb _ _ (capture .before .if1 .left))
-          (sym (capture .high-capture .ensures) ∙ settings .before .if2 .left) (ne-eqb _ _ (λ e. c .if3 .taken (settings .of-question .ensures ∙ e))))),
+          (sym (capture .ends-high .ensures) ∙ settings .before .if2 .left) (ne-eqb _ _ (λ e. c .if3 .taken (settings .of-question .ensures ∙ e))))),
       (counts _ _ _ _ _ _, λ other. framing _ _ _ _ _ _ _),
     )
 
@@ -55,7 +55,7 @@ returns-4 c =
     let z = capture .before .before .before .before .args in (
       tells-ran _ _ _ _ _ _ _ _ _ _
           (unrefused (length (z .log .now)) (z .base) (length (z .bytes .now)) (z .r) (z .g) (z .a) (le-ltb _ _ (capture .before .if1 .left))
-          (sym (capture .high-capture .ensures) ∙ settings .before .if2 .left) (eq-eqb _ _ (sym (settings .of-question .ensures) ∙ listed .before .if3 .left))
+          (sym (capture .ends-high .ensures) ∙ settings .before .if2 .left) (eq-eqb _ _ (sym (settings .of-question .ensures) ∙ listed .before .if3 .left))
           (sym (listed .listed .ensures) ∙ stages .before .before .if4 .taken))
           (rw (stages .before .stage1 .ensures, stages .stage2 .ensures) at (ran .access .ensures .0)) (c .answered .ensures),
       (counts _ _ _ _ _ _, λ other. framing _ _ _ _ _ _ _),
@@ -69,7 +69,7 @@ returns-5 c =
     let z = capture .before .before .before .before .args in (
       tells-refused _ _ _ _ _ _ _
           (refused-13 (length (z .log .now)) (z .base) (length (z .bytes .now)) (z .r) (z .g) (z .a) (le-ltb _ _ (capture .before .if1 .left))
-          (sym (capture .high-capture .ensures) ∙ settings .before .if2 .left) (eq-eqb _ _ (sym (settings .of-question .ensures) ∙ listed .before .if3 .left))
+          (sym (capture .ends-high .ensures) ∙ settings .before .if2 .left) (eq-eqb _ _ (sym (settings .of-question .ensures) ∙ listed .before .if3 .left))
           (sym (listed .listed .ensures) ∙ c .if4 .left)),
       (counts _ _ _ _ _ _, λ other. framing _ _ _ _ _ _ _),
     )
