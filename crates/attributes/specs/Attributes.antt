@@ -87,8 +87,8 @@ stage2Attributes uncached x = stage2Codes uncached (field x 8 2) (field x 4 2) (
 -- ---- stage 1 off
 
 -- by HCR_EL2.DC, by whether the access is a fetch, and by SCTLR_EL1.I (01, Attributes, stage 1 off)
-unfoldable pub flatAttributes : (dc fetch i : Bool) → Attributes
-flatAttributes dc fetch i =
+unfoldable pub stage1OffAttributes : (dc fetch i : Bool) → Attributes
+stage1OffAttributes dc fetch i =
     pick dc (reported (Normal WriteBack WriteBack) NonShareable)
     (pick fetch
     (pick i (reported (Normal WriteThrough WriteThrough) OuterShareable) (reported (Normal NonCacheable NonCacheable) OuterShareable))

@@ -236,8 +236,8 @@ pub fn stage2_attributes(uncached: bool, x: u64) -> Decoded
 }
 
 // With stage 1 off: by HCR_EL2.DC, by whether the access is a fetch, and by SCTLR_EL1.I.
-pub fn flat_attributes(dc: bool, fetch: bool, i: bool) -> Attributes
-    ensures { λ r. ⌜ r ≡ Memories.flatAttributes dc fetch i ⌝ }
+pub fn stage1_off_attributes(dc: bool, fetch: bool, i: bool) -> Attributes
+    ensures { λ r. ⌜ r ≡ Memories.stage1OffAttributes dc fetch i ⌝ }
 {
     if dc {
         reported(alike(Cacheability::WriteBack), Shareability::NonShareable)
@@ -262,7 +262,7 @@ pub fn flat_attributes(dc: bool, fetch: bool, i: bool) -> Attributes
 }
 
 // Ranks: 0 is the strictest, and of two the stricter wins.
-pub fn device_rank(d: DeviceType) -> u64
+fn device_rank(d: DeviceType) -> u64
     ensures { λ r. ⌜ r ≡ Memories.deviceRank d ⌝ }
 {
     match d {
@@ -273,7 +273,7 @@ pub fn device_rank(d: DeviceType) -> u64
     }
 }
 
-pub fn cache_rank(c: Cacheability) -> u64
+fn cache_rank(c: Cacheability) -> u64
     ensures { λ r. ⌜ r ≡ Memories.cacheRank c ⌝ }
 {
     match c {

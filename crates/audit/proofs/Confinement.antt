@@ -2,36 +2,38 @@
 -- Assumes nothing.
 use mathlib.Core.Path.{_≡_, refl, sym, subst, _∙_}
 use mathlib.Core.Bool.{true, false}
-use mathlib.Core.List.{List, [], _∷_}
-use mathlib.Core.Option.{Option, some, none}
+use mathlib.Core.List.{List}
 use Prim.Native.Nat.{ℕ, suc, _+_, _-_, _*_, _%_, _^_, _<_}
 use native.Mathlib.Omega.{arith}
 use lib.ListN.{length, getD}
 use borrow.Author.Tests.{not-false}
-use Rattle.descriptor.specs.Program.{Request, Outcome, reached, stopped, run, reads, stop, All, cons}
+use Rattle.reads.specs.Program.{Request, Outcome, reached, stopped, run, reads, All, nil}
 use Rattle.access.specs.declared.Access.{Access}
-use Rattle.descriptor.specs.declared.entry.Fetch.{Fetch}
-use Rattle.descriptor.proofs.Holds.{OnOutcome, Holds, on-stop, holds-reads, holds-run, holds-pick}
-use Rattle.capture.specs.Capture.{memory, SameBytes}
+use Rattle.reads.specs.declared.Read.{Read}
+use Rattle.reads.proofs.Holds.{OnOutcome, Holds, holds-reads, holds-run}
+use Rattle.capture.specs.Capture.{captured, SameBytes}
 use Rattle.capture.proofs.Bytewise.{same-word}
-use Rattle.walk.specs.Walk.{Reading}
-use Rattle.walk.specs.Answers.{answer}
-use Rattle.walk.specs.declared.answer.Refusal.{Refusal}
-use Rattle.walk.specs.declared.answer.Stop.{Stop}
-use Rattle.walk.specs.declared.answer.Stop.the-variants as S
-use Rattle.walk.specs.declared.answer.Translation.{Translation}
-use Rattle.walk.specs.declared.stage.Root.{Root}
-use Rattle.walk.specs.declared.stage.Root.the-variants.{Unusable, Usable}
-use Rattle.walk.specs.declared.stage.Table.{Table}
-use Rattle.walk.proofs.Accesses.{Spot, Hit, Around, holds-access}
+use Rattle.answers.specs.Answers.{answer}
+use Rattle.answers.specs.declared.Refusal.{Refusal}
+use Rattle.walk.specs.declared.stop.Stop.{Stop}
+use Rattle.walk.specs.declared.stop.Stop.the-variants as S
+use Rattle.stages.specs.declared.both.Translation.{Translation}
+use Rattle.walk.specs.declared.table.Root.{Root}
+use Rattle.walk.specs.declared.table.Root.the-variants.{Unusable, Usable}
+use Rattle.walk.specs.declared.table.Table.{Table}
+use Rattle.stages.specs.Stages.{access}
+use Rattle.stages.proofs.Accesses.{Spot, Hit, Around, holds-access}
 use Rattle.settings.specs.Settings.{stage2On}
 use Rattle.regime.specs.Roots.{root2, stage1, stage2}
 use Rattle.registers.specs.declared.El1.{El1}
 use Rattle.registers.specs.declared.El2.{El2}
 use Rattle.regime.proofs.Roots.{Sane, root2-sane, root1-aligned}
-use Rattle.question.specs.Refusals.{Ground, refuse}
-use Rattle.question.specs.Question.{question, told, ask}
-use Rattle.question.proofs.Refusals.{refuse-some, refuse-none, none-holds}
+use Rattle.answers.specs.Refusals.{Ground, refuse, verdict}
+use Rattle.answers.specs.declared.Verdict.{Verdict}
+use Rattle.answers.specs.declared.Verdict.the-variants as Verdict
+use Rattle.answers.specs.Question.{turnedAway, told, askOver, ask}
+use Rattle.bits.specs.Bits.{pick}
+use Rattle.answers.proofs.Refusals.{refuse-refused, refuse-accepted, by-refuse, holdsFor, isNoRoot, none-holds}
 use Rattle.audit.specs.Lists.{zip}
 use Rattle.audit.specs.Audit.{stage2Read, auditFrom, auditGrounds, auditOver, audit}
 use Rattle.audit.specs.Confinement.{InFrame, Audited, the-root, listed, InTables, ReadIn, MissingIn, AnswerIn, Confined, Confinement}
@@ -46,12 +48,12 @@ not-clean : {X : Type 0} (why : Refusal) → Refused why ≡ Clean → X
 not-clean why e = absurd (let z : _≡_ {A = ℕ} 0 1 = cc in omega arith)
 
 -- it met no refusal
-unrefused : (l : List Ground) (x : AuditAnswer) → refuse Refused l x ≡ Clean → refuse some l none ≡ none
-unrefused l x e = by-refusal (refuse some l none) refl
+unrefused : (l : List Ground) (x : AuditAnswer) → refuse Refused l x ≡ Clean → verdict l ≡ Verdict.Accepted
+unrefused l x e = by-verdict (verdict l) refl
   where
-    by-refusal : (o : Option Refusal) → refuse some l none ≡ o → refuse some l none ≡ none
-    by-refusal none q = q
-    by-refusal (some why) q = not-clean why (sym (refuse-some Refused l x why q) ∙ e)
+    by-verdict : (v : Verdict) → verdict l ≡ v → verdict l ≡ Verdict.Accepted
+    by-verdict Verdict.Accepted q = q
+    by-verdict (Verdict.Refused why) q = not-clean why (sym (refuse-refused Refused l x why q) ∙ e)
 
 -- ---- stops that name no stage 1 descriptor, or one in a granted frame
 
@@ -60,7 +62,6 @@ StopIn grants (S.Fault f) = Unit {0}
 StopIn grants (S.Misaligned s) = Unit {0}
 StopIn grants (S.Absent m) = MissingIn grants (m .stage) (m .address)
 StopIn grants (S.Unsettled o) = Unit {0}
-StopIn grants (S.Refused r) = Unit {0}
 
 answer-in : (grants : List (ℕ × ℕ)) (n : ℕ) (o : Outcome Stop Translation) → OnOutcome (λ t. InFrame grants 1 (t .address)) (StopIn grants) o → AnswerIn grants (answer n o)
 unfolding answer
@@ -69,16 +70,15 @@ answer-in grants n (stopped (S.Fault f)) h = tt
 answer-in grants n (stopped (S.Misaligned s)) h = tt
 answer-in grants n (stopped (S.Absent m)) h = h
 answer-in grants n (stopped (S.Unsettled o)) h = tt
-answer-in grants n (stopped (S.Refused r)) h = tt
 
 -- ---- two captures
 
 module _ (base : ℕ) (bytes bytes′ : List ℕ) (bounds : length bytes ≡ length bytes′) (r : El2) (grants tables : List (ℕ × ℕ)) where
-  abbrev m : Request → Fetch
-  m = memory base (length bytes) bytes
+  abbrev m : Request → Read
+  m = captured base bytes
 
-  abbrev m′ : Request → Fetch
-  m′ = memory base (length bytes′) bytes′
+  abbrev m′ : Request → Read
+  m′ = captured base bytes′
 
   module _ (root : Table) (rooted : root2 r ≡ Usable root) (sane : Sane (Usable root)) (clean : auditFrom m grants tables (Usable root) ≡ Clean)
       (same : (table size : ℕ) → Audited (root2 r) tables table size → SameBytes base bytes bytes′ table size) (on : stage2On r ≡ true) where
@@ -93,9 +93,9 @@ module _ (base : ℕ) (bytes bytes′ : List ℕ) (bounds : length bytes ≡ len
     same-entry : (n j table i : ℕ) → T (suc n) j table → i < 2 ^ j → m′ (stage2Read (table + 8 * i)) ≡ m (stage2Read (table + 8 * i))
     same-entry n j table i t less =
         same-word base bytes bytes′ bounds (stage2Read (table + 8 * i))
-        (λ k h.
+        (λ k h from to.
         let at : table + (8 * i + k) ≡ table + 8 * i + k = omega arith in
-        subst (λ z. getD bytes′ (z - base) 0 ≡ getD bytes (z - base) 0) at (same table (8 * 2 ^ j) (audited t) (8 * i + k) (omega arith)))
+        subst (λ z. getD bytes′ (z - base) 0 ≡ getD bytes (z - base) 0) at (same table (8 * 2 ^ j) (audited t) (8 * i + k) (omega arith) (omega arith) (omega arith)))
 
     in-tables : (n at : ℕ) → Spot T n at → InTables (root2 r) tables at
     in-tables n at p =
@@ -125,48 +125,41 @@ module _ (base : ℕ) (bytes bytes′ : List ℕ) (bounds : length bytes ≡ len
         }
 
     module _ (g : El1) (a : Access) where
-      -- a refused question reads nothing
-      holds-refuse : {R : Translation → Type 0} (p : Reading Translation) (l : List Ground) →
-          Holds m′ ReadAt (StopIn grants) R p → Holds m′ ReadAt (StopIn grants) R (refuse (λ why. stop (S.Refused why)) l p)
-      unfolding refuse
-      holds-refuse p [] h = h
-      holds-refuse p (t ∷ l) h = holds-pick m′ _ _ (t .holds) (λ _. on-stop tt) (λ _. holds-refuse p l h)
-
-      holds : (words length : ℕ) → Holds m′ ReadAt (StopIn grants) (λ t. (ipa : ℕ) × Hit (GrantedLeaf grants) ipa (t .address)) (question words base length r g a)
-      unfolding question stage2
-      holds words length =
-          holds-refuse _ _ (holds-access m′ ReadAt (StopIn grants) (InFrame grants 8) T (GrantedLeaf grants) root around (stage2 r) rooted a on (stage1 r g) (root1-aligned r g (a .address)))
+      holds : Holds m′ ReadAt (StopIn grants) (λ t. (ipa : ℕ) × Hit (GrantedLeaf grants) ipa (t .address)) (access (stage1 r g) (stage2 r) a)
+      unfolding stage2
+      holds = holds-access m′ ReadAt (StopIn grants) (InFrame grants 8) T (GrantedLeaf grants) root around (stage2 r) rooted a on (stage1 r g) (root1-aligned r g (a .address))
 
       landed : (o : Outcome Stop Translation) → OnOutcome (λ t. (ipa : ℕ) × Hit (GrantedLeaf grants) ipa (t .address)) (StopIn grants) o →
           OnOutcome (λ t. InFrame grants 1 (t .address)) (StopIn grants) o
       landed (reached t) (ipa, h) = subst (InFrame grants 1) (sym (h .is)) (address-in-frame grants (h .word) (h .shift) ipa (h .leaf))
       landed (stopped e) h = h
 
-      pub confined-by : (log : List ℕ) → Confined (root2 r) grants tables (told m′ log (question (length log) base (length bytes′) r g a))
-      unfolding told
+      -- a refused question reads nothing
+      pub confined-by : (log : List ℕ) → Confined (root2 r) grants tables (ask base bytes′ r g a log)
+      unfolding ask askOver turnedAway told
       confined-by log =
-          let p = question (length log) base (length bytes′) r g a in
-          let h = holds (length log) (length bytes′) in
-          record { reads = holds-reads m′ _ _ h; answer = answer-in grants _ (run m′ p) (landed (run m′ p) (holds-run m′ _ _ h)) }
+          by-refuse (Confined (root2 r) grants tables) _ _ _ (λ why. record { reads = nil; answer = tt })
+          (record { reads = holds-reads m′ _ _ holds; answer = answer-in grants _ (run m′ _) (landed (run m′ _) (holds-run m′ _ _ holds)) })
 
   -- a clean audit has a usable root
   by-root : (root : Root) → root2 r ≡ root → Sane root → auditFrom m grants tables root ≡ Clean →
       ((table size : ℕ) → Audited (root2 r) tables table size → SameBytes base bytes bytes′ table size) → stage2On r ≡ true →
-      (g : El1) (a : Access) (log : List ℕ) → Confined (root2 r) grants tables (told m′ log (question (length log) base (length bytes′) r g a))
+      (g : El1) (a : Access) (log : List ℕ) → Confined (root2 r) grants tables (ask base bytes′ r g a log)
   unfolding auditFrom
   by-root (Unusable kind level) e sane clean same on g a log = not-clean _ clean
   by-root (Usable t) e sane clean same on g a log = confined-by t e sane clean same on g a log
 
+-- stage 2 is on where the audit is not refused
+stage2-on : (base size : ℕ) (r : El2) (grants counts tables levels : List ℕ) → verdict (auditGrounds base size r grants counts tables levels) ≡ Verdict.Accepted → stage2On r ≡ true
+unfolding holdsFor pick
+stage2-on base size r grants counts tables levels e = not-false _ (none-holds isNoRoot (auditGrounds base size r grants counts tables levels) e)
+
 pub confinement : (base : ℕ) (bytes bytes′ : List ℕ) (r : El2) (grants counts tables levels : List ℕ) → Confinement base bytes bytes′ r grants counts tables levels
-unfolding audit auditOver ask
+unfolding audit auditOver
 confinement base bytes bytes′ r grants counts tables levels =
     record {
       confined = λ clean bounds same g a log.
-          let none-met = unrefused _ _ clean in
+          let accepted = unrefused _ _ clean in
           by-root base bytes bytes′ bounds r (zip grants counts) (zip tables levels) (root2 r) refl (root2-sane r)
-          (sym (refuse-none Refused _ _ none-met) ∙ clean) same (stage2-on (none-holds _ none-met)) g a log;
+          (sym (refuse-accepted Refused _ _ accepted) ∙ clean) same (stage2-on base (length bytes) r grants counts tables levels accepted) g a log;
     }
-  where
-    -- 16's ground is the fourth
-    stage2-on : All (λ t. t .holds ≡ false) (auditGrounds base (length bytes) r grants counts tables levels) → stage2On r ≡ true
-    stage2-on (cons h (cons i (cons j (cons k l)))) = not-false _ k

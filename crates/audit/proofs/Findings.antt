@@ -9,15 +9,15 @@ use native.Mathlib.Omega.{arith}
 use lib.Dec.{eqb}
 use borrow.Author.Tests.{eqb-true}
 use Rattle.bits.specs.Bits.{pick}
-use Rattle.descriptor.specs.Program.{Request}
-use Rattle.descriptor.specs.Entry.{shape}
-use Rattle.descriptor.specs.declared.entry.Fetch.{Fetch}
-use Rattle.descriptor.specs.declared.entry.Fetch.the-variants.{Word}
+use Rattle.reads.specs.Program.{Request}
+use Rattle.descriptor.specs.Entry.{descriptorType}
+use Rattle.reads.specs.declared.Read.{Read}
+use Rattle.reads.specs.declared.Read.the-variants.{Word}
 use Rattle.descriptor.specs.declared.entry.Geometry.{Geometry}
-use Rattle.descriptor.specs.declared.entry.Shape.{Shape}
-use Rattle.descriptor.specs.declared.entry.Shape.the-variants as Shape
+use Rattle.descriptor.specs.declared.entry.DescriptorType.{DescriptorType}
+use Rattle.descriptor.specs.declared.entry.DescriptorType.the-variants as DescriptorType
 use Rattle.bits.proofs.Tests.{and-left, and-right}
-use Rattle.walk.specs.declared.stage.Table.{Table}
+use Rattle.walk.specs.declared.table.Table.{Table}
 use Rattle.walk.proofs.Walks.{Says}
 use Rattle.audit.specs.Audit.{found, orElse, isListed, stage2Read, eachEntry, examineAs, examine, auditTable, auditListed}
 use Rattle.audit.specs.declared.FindingKind.{FindingKind}
@@ -61,7 +61,7 @@ pub data Tables (root : Table) (tables : List (ℕ × ℕ)) : (k j table : ℕ) 
   top : Tables root tables (root .levels) (root .bits) (root .base)
   low : {k table : ℕ} → k ≤ 3 → isListed tables table (4 - k) ≡ true → Tables root tables k (root .geometry .stride) table
 
-module _ (m : Request → Fetch) (grants tables : List (ℕ × ℕ)) (root : Table) where
+module _ (m : Request → Read) (grants tables : List (ℕ × ℕ)) (root : Table) where
   abbrev g : Geometry
   g = root .geometry
 
@@ -78,7 +78,7 @@ module _ (m : Request → Fetch) (grants tables : List (ℕ × ℕ)) (root : Tab
       by-test false q h′ rest = rest h′
 
   -- what is needed of a root: frames, at most four levels; and both parts of its audit are clean
-  module _ (frames : 12 ≤ g .granule) (few : root .levels ≤ 4)
+  module _ (frames : 12 ≤ g .grainsize) (few : root .levels ≤ 4)
       (top-clean : auditTable m g grants tables (root .levels - 1) (root .bits) (root .base) ≡ Clean) (list-clean : auditListed m g grants tables tables ≡ Clean) where
     abbrev T : ℕ → ℕ → ℕ → Type 0
     T = Tables root tables
@@ -92,16 +92,16 @@ module _ (m : Request → Fetch) (grants tables : List (ℕ × ℕ)) (root : Tab
     few-below top n e = omega arith
     few-below (low h l) n e = omega arith
 
-    says-as : (n at x : ℕ) (s : Shape) → n ≤ 3 → examineAs g grants tables n at x s ≡ Clean → Says T (GrantedLeaf grants) g n x s
+    says-as : (n at x : ℕ) (s : DescriptorType) → n ≤ 3 → examineAs g grants tables n at x s ≡ Clean → Says T (GrantedLeaf grants) g n x s
     unfolding examineAs
-    says-as n at x Shape.Void h e = tt
-    says-as n at x Shape.Table h e = low h (passed _ _ _ e)
-    says-as n at x Shape.Leaf h e = record { frames = omega arith; range = passed _ _ _ e }
+    says-as n at x DescriptorType.Invalid h e = tt
+    says-as n at x DescriptorType.Table h e = low h (passed _ _ _ e)
+    says-as n at x DescriptorType.Leaf h e = record { frames = omega arith; range = passed _ _ _ e }
 
     -- each entry leads to a listed table one level on, or maps a granted range, or is void
-    pub entry-says : (n j table i x : ℕ) → T (suc n) j table → i < 2 ^ j → m (stage2Read (table + 8 * i)) ≡ Word x → Says T (GrantedLeaf grants) g n x (shape g n x)
+    pub entry-says : (n j table i x : ℕ) → T (suc n) j table → i < 2 ^ j → m (stage2Read (table + 8 * i)) ≡ Word x → Says T (GrantedLeaf grants) g n x (descriptorType g n x)
     unfolding auditTable examine
     entry-says n j table i x t h e =
         let entries = clean-right _ _ (clean-right _ _ (table-clean t n refl)) in
         let entry : examine g grants tables n (table + 8 * i) (m (stage2Read (table + 8 * i))) ≡ Clean = entry-clean _ (2 ^ j) table entries i h in
-        says-as n (table + 8 * i) x (shape g n x) (few-below t n refl) (subst (λ f. examine g grants tables n (table + 8 * i) f ≡ Clean) e entry)
+        says-as n (table + 8 * i) x (descriptorType g n x) (few-below t n refl) (subst (λ f. examine g grants tables n (table + 8 * i) f ≡ Clean) e entry)

@@ -5,20 +5,20 @@ use mathlib.Core.Bool.{true}
 use mathlib.Core.List.{List}
 use Prim.Native.Nat.{ℕ, _+_, _*_, _%_, _^_, _≤_}
 use lib.ListN.{length}
-use Rattle.descriptor.specs.Program.{Reader, stage-1, stage-2, All}
+use Rattle.reads.specs.Program.{Reader, stage-1, stage-2, All}
 use Rattle.access.specs.declared.Access.{Access}
 use Rattle.capture.specs.Capture.{SameBytes}
-use Rattle.walk.specs.declared.answer.Stage.{Stage}
-use Rattle.walk.specs.declared.answer.Stage.the-variants.{One, Two}
-use Rattle.walk.specs.declared.answer.Answer.{Answer}
-use Rattle.walk.specs.declared.answer.Answer.the-variants as A
-use Rattle.walk.specs.declared.stage.Root.{Root}
-use Rattle.walk.specs.declared.stage.Root.the-variants.{Usable}
-use Rattle.walk.specs.declared.stage.Table.{Table}
+use Rattle.walk.specs.declared.stop.Stage.{Stage}
+use Rattle.walk.specs.declared.stop.Stage.the-variants.{One, Two}
+use Rattle.answers.specs.declared.Answer.{Answer}
+use Rattle.answers.specs.declared.Answer.the-variants as A
+use Rattle.walk.specs.declared.table.Root.{Root}
+use Rattle.walk.specs.declared.table.Root.the-variants.{Usable}
+use Rattle.walk.specs.declared.table.Table.{Table}
 use Rattle.regime.specs.Roots.{root2}
 use Rattle.registers.specs.declared.El1.{El1}
 use Rattle.registers.specs.declared.El2.{El2}
-use Rattle.question.specs.Question.{Told, ask}
+use Rattle.answers.specs.Question.{Told, ask}
 use Rattle.audit.specs.Lists.{zip}
 use Rattle.audit.specs.Audit.{granted, isListed, audit}
 use Rattle.audit.specs.declared.AuditAnswer.the-variants.{Clean}

@@ -1,4 +1,5 @@
-use walk::answer::Refusal;
+// What the audit of stage 2's tables gives.
+use answers::Refusal;
 
 // What can be wrong with an audited table, in the order of the numbers 1 to 4.
 pub enum FindingKind {

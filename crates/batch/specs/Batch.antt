@@ -6,27 +6,25 @@ use Prim.Native.Nat.{ℕ, _+_}
 use lib.Dec.{ltb, leb, eqb}
 use lib.ListN.{length}
 use Rattle.bits.specs.Bits.{pick}
-use Rattle.descriptor.specs.Program.{Request}
-use Rattle.access.specs.Access.{listed}
-use Rattle.descriptor.specs.declared.entry.Fetch.{Fetch}
-use Rattle.capture.specs.Capture.{memory}
-use Rattle.walk.specs.Answers.{number}
-use Rattle.walk.specs.declared.answer.Refusal.the-variants.{BatchLists, Unlisted}
-use Rattle.walk.specs.declared.answer.Answer.{Answer}
-use Rattle.walk.specs.declared.answer.Answer.the-variants as A
-use Rattle.settings.specs.Settings.{settings}
+use Rattle.reads.specs.Program.{Request}
+use Rattle.reads.specs.declared.Read.{Read}
+use Rattle.capture.specs.Capture.{captured}
+use Rattle.stages.specs.Stages.{access}
 use Rattle.registers.specs.declared.El1.{El1}
 use Rattle.registers.specs.declared.El2.{El2}
-use Rattle.question.specs.Refusals.{Ground, refuse, highCapture, failing}
-use Rattle.question.specs.Question.{logWords, question, told}
+use Rattle.regime.specs.Roots.{stage1, stage2}
+use Rattle.answers.specs.Answers.{number, refusalNumber, itemOf}
+use Rattle.answers.specs.Refusals.{Ground, refuse, shared}
+use Rattle.answers.specs.Question.{told}
+use Rattle.answers.specs.declared.Refusal.the-variants.{BatchLists}
+use Rattle.answers.specs.declared.Answer.{Answer}
+use Rattle.answers.specs.declared.Answer.the-variants as A
 use Rattle.batch.specs.declared.Ledger.{Ledger}
 use Rattle.batch.specs.declared.BatchAnswer.{BatchAnswer}
 use Rattle.batch.specs.declared.BatchAnswer.the-variants.{Done, Refused}
 
 -- what all addresses of a batch share
 pub record Shared : Type 0 where
-  pub base : ℕ
-  pub length : ℕ
   pub el2 : El2
   pub el1 : El1
   pub kind : ℕ
@@ -34,9 +32,9 @@ pub record Shared : Type 0 where
   pub size : ℕ
 
 -- one address's answer; a batch has a working log of its own
-unfoldable pub answerTo : (Request → Fetch) → Shared → (address : ℕ) → Answer
+unfoldable pub answerTo : (Request → Read) → Shared → (address : ℕ) → Answer
 answerTo m s a =
-    told m [] (question logWords (s .base) (s .length) (s .el2) (s .el1) (record { address = a; kind = s .kind; el = s .el; size = s .size })) .answer
+    told m [] (access (stage1 (s .el2) (s .el1)) (stage2 (s .el2)) (record { address = a; kind = s .kind; el = s .el; size = s .size })) .answer
 
 -- 0 for an address that is not translated
 unfoldable pub outputOf : Answer → ℕ
@@ -63,18 +61,27 @@ ledger l =
       unsettled = count (λ n. eqb n 7) l;
     }
 
+-- ---- the batch's own answer: its number and its values. The table of answers has no number for a batch that ran; 0 is ours.
+
+abbrev pub batchNumber : BatchAnswer → ℕ
+batchNumber (Done l) = 0
+batchNumber (Refused r) = refusalNumber r
+
+-- the ledger's figures, or a settings refusal's item
+abbrev pub batchCarries : BatchAnswer → List ℕ
+batchCarries (Done l) = l .asked ∷ l .translated ∷ l .faulted ∷ l .absent ∷ l .unsettled ∷ []
+batchCarries (Refused r) = itemOf r
+
+-- ---- the batch
+
 -- 14
 abbrev pub unequal : (asked outputs numbers : ℕ) → Bool
 unequal asked outputs numbers = not (eqb asked outputs) || not (eqb asked numbers) || ltb 4096 asked
 
--- 14 in 10's place, then 11, 12, 13
-abbrev pub batchGrounds : Shared → (asked outputs numbers : ℕ) → List Ground
-batchGrounds s asked outputs numbers =
-    record { holds = unequal asked outputs numbers; refusal = BatchLists }
-    ∷ highCapture (s .base) (s .length)
-    ∷ failing (settings (s .el2) (s .el1))
-    ∷ record { holds = not (listed (s .kind) (s .el) (s .size)); refusal = Unlisted }
-    ∷ []
+-- 14 in 10's place, and then what a question is refused for too
+abbrev pub batchGrounds : (base size : ℕ) → Shared → (asked outputs numbers : ℕ) → List Ground
+batchGrounds base size s asked outputs numbers =
+    record { holds = unequal asked outputs numbers; refusal = BatchLists } ∷ shared base size (s .el2) (s .el1) (s .kind) (s .el) (s .size)
 
 -- what a batch gives: its answer, and the two lent lists afterwards
 pub record BatchTold : Type 0 where
@@ -85,13 +92,13 @@ pub record BatchTold : Type 0 where
 unfoldable pub answered : List Answer → BatchTold
 answered l = record { answer = Done (ledger (map number l)); outputs = map outputOf l; numbers = map number l }
 
--- a refused batch writes nothing
-unfoldable pub toldBatch : (Request → Fetch) → Shared → (addresses outputs numbers : List ℕ) → BatchTold
-toldBatch m s addresses outputs numbers =
+-- the batch over a memory, that of a capture of so many bytes at base; a refused one writes nothing
+unfoldable pub batchOver : (Request → Read) → (base size : ℕ) → Shared → (addresses outputs numbers : List ℕ) → BatchTold
+batchOver m base size s addresses outputs numbers =
     refuse (λ why. record { answer = Refused why; outputs = outputs; numbers = numbers })
-    (batchGrounds s (length addresses) (length outputs) (length numbers))
+    (batchGrounds base size s (length addresses) (length outputs) (length numbers))
     (answered (map (answerTo m s) addresses))
 
 -- the batch over the bytes of a capture
-unfoldable pub batch : Shared → (bytes addresses outputs numbers : List ℕ) → BatchTold
-batch s bytes = toldBatch (memory (s .base) (s .length) bytes) s
+unfoldable pub batch : (base : ℕ) (bytes : List ℕ) → Shared → (addresses outputs numbers : List ℕ) → BatchTold
+batch base bytes = batchOver (captured base bytes) base (length bytes)

@@ -1,4 +1,5 @@
-use walk::answer::Refusal;
+// What a batch gives: its ledger, or its refusal.
+use answers::Refusal;
 
 // How many addresses a batch asked, and how many answers of each sort it had.
 pub struct Ledger {

@@ -10,11 +10,11 @@ use lib.ListN.{length, getD, take, drop}
 use lib.Seq.{drop-cons}
 use borrow.Author.Tests.{leb-true}
 use Rattle.bits.specs.Bits.{pick}
-use Rattle.descriptor.specs.Program.{Request}
-use Rattle.descriptor.specs.declared.entry.Fetch.the-variants.{Absent, Word}
+use Rattle.reads.specs.Program.{Request}
+use Rattle.reads.specs.declared.Read.the-variants.{Absent, Word}
 use Rattle.bits.proofs.Tests.{and-left, and-right}
-use Rattle.descriptor.proofs.Laws.{SameGaps}
-use Rattle.capture.specs.Capture.{little, within, memory, SameBytes}
+use Rattle.reads.proofs.Laws.{SameGaps}
+use Rattle.capture.specs.Capture.{little, within, memory, captured, SameBytes}
 
 -- n bytes from i on are the same in both
 same-part : (n i : ℕ) (l l′ : List ℕ) → length l ≡ length l′ → i + n ≤ length l → ((k : ℕ) → k < n → getD l′ (i + k) 0 ≡ getD l (i + k) 0) →
@@ -44,11 +44,11 @@ pick-word true x y h = ap Word (h refl)
 pick-word false x y h = refl
 
 module _ (base : ℕ) (l l′ : List ℕ) (bounds : length l ≡ length l′) where
-  pub same-gaps : SameGaps (memory base (length l) l) (memory base (length l′) l′)
+  pub same-gaps : SameGaps (captured base l) (captured base l′)
   unfolding memory
   same-gaps q h = rw (← bounds) (pick-gap (within base (length l) (q .address)) _ _ h)
 
-  pub same-word : (q : Request) → SameBytes base l l′ (q .address) 8 → memory base (length l′) l′ q ≡ memory base (length l) l q
+  pub same-word : (q : Request) → SameBytes base l l′ (q .address) 8 → captured base l′ q ≡ captured base l q
   unfolding memory
   same-word q same =
       rw (← bounds)
@@ -59,4 +59,4 @@ module _ (base : ℕ) (l l′ : List ℕ) (bounds : length l ≡ length l′) wh
       ap little (same-part 8 (q .address - base) l l′ bounds fits
       (λ k less.
       let at : q .address + k - base ≡ q .address - base + k = omega arith in
-      subst (λ z. getD l′ z 0 ≡ getD l z 0) at (same k less)))))
+      subst (λ z. getD l′ z 0 ≡ getD l z 0) at (same k less (omega arith) (omega arith))))))

@@ -11,8 +11,8 @@ use lib.Dec.{eqb}
 use lib.ListN.{take, drop}
 use borrow.Author.Tests.{eqb-true}
 use Rattle.bits.specs.Bits.{pick}
-use Rattle.descriptor.specs.Program.{Request}
-use Rattle.descriptor.specs.declared.entry.Fetch.the-variants.{Absent, Word}
+use Rattle.reads.specs.Program.{Request}
+use Rattle.reads.specs.declared.Read.the-variants.{Absent, Word}
 use Rattle.capture.specs.Capture.{little, within, memory}
 use Rattle.capture.proofs.Bytewise.{in-bounds}
 use Rattle.capture.specs.Sparse.{wordAt, byteAt, image, descriptorAt, sparse}

@@ -5,9 +5,9 @@ use mathlib.Core.List.{List, [], _∷_}
 use Prim.Native.Nat.{ℕ, zero, suc, _*_, _/_, _%_, _^_}
 use lib.Dec.{eqb}
 use Rattle.bits.specs.Bits.{pick}
-use Rattle.descriptor.specs.Program.{Request}
-use Rattle.descriptor.specs.declared.entry.Fetch.{Fetch}
-use Rattle.descriptor.specs.declared.entry.Fetch.the-variants.{Absent, Word}
+use Rattle.reads.specs.Program.{Request}
+use Rattle.reads.specs.declared.Read.{Read}
+use Rattle.reads.specs.declared.Read.the-variants.{Absent, Word}
 use Rattle.capture.specs.Capture.{little, within}
 
 -- the word listed for an address, the first where there are several, else 0
@@ -28,5 +28,5 @@ image ws a (suc n) = byteAt ws a ∷ image ws (suc a) n
 unfoldable pub descriptorAt : List (ℕ × ℕ) → ℕ → ℕ
 descriptorAt ws a = pick (eqb (a % 8) 0) (wordAt ws a % 2 ^ 64) (little (image ws a 8))
 
-unfoldable pub sparse : (base length : ℕ) → List (ℕ × ℕ) → Request → Fetch
+unfoldable pub sparse : (base length : ℕ) → List (ℕ × ℕ) → Request → Read
 sparse base length ws q = pick (within base length (q .address)) (Word (descriptorAt ws (q .address))) Absent

@@ -2,9 +2,9 @@
 ghost use mathlib.Core.Path.{_≡_};
 ghost use Prim.Native.Nat.{_+_, _*_, _≤_, _<_};
 ghost use lib.ListN.{length, getD};
-ghost use Rattle.descriptor.specs.Program.{Reader};
-ghost use Rattle.capture.specs.Capture.{memory, endsHigh};
-use descriptor::entry::Fetch;
+ghost use Rattle.reads.specs.Program.{Reader};
+ghost use Rattle.capture.specs.Capture.{captured, endsHigh};
+use reads::Read;
 
 // A byte as a word.
 fn wide(x: u8) -> u64
@@ -32,24 +32,24 @@ fn word(bytes: &[u8], i: usize) -> u64
 }
 
 // The descriptor at a physical address of the bytes that stand at base. Differences and no sums: a sum of base or address may wrap.
-pub fn fetch(bytes: &[u8], base: u64, address: u64) -> Fetch
+pub fn read(bytes: &[u8], base: u64, address: u64) -> Read
     ensures { λ r. ⌜ ((reader : Reader) →
-        r ≡ memory base (length (now (bytes .entry))) (now (bytes .entry)) (record { reader = reader; address = address })) ⌝ }
+        r ≡ captured base (now (bytes .entry)) (record { reader = reader; address = address })) ⌝ }
 {
     if base <= address {
         let at = address - base;
         let n = bytes.len() as u64;
         if 8 <= n {
             if at <= n - 8 {
-                Fetch::Word(word(bytes, at as usize))
+                Read::Word(word(bytes, at as usize))
             } else {
-                Fetch::Absent
+                Read::Absent
             }
         } else {
-            Fetch::Absent
+            Read::Absent
         }
     } else {
-        Fetch::Absent
+        Read::Absent
     }
 }
 

@@ -1,4 +1,6 @@
 // Answers as text.
+use answers::Answer;
+use answers::Refusal;
 use attributes::Attributes;
 use attributes::Cacheability;
 use attributes::DeviceType;
@@ -6,13 +8,11 @@ use attributes::MemoryType;
 use attributes::Shareability;
 use descriptor::entry::FaultKind;
 use libc::STDOUT_FILENO;
-use walk::answer::Answer;
-use walk::answer::Fault;
-use walk::answer::Missing;
-use walk::answer::Open;
-use walk::answer::Refusal;
-use walk::answer::Stage;
-use walk::answer::Translation;
+use stages::both::Translation;
+use walk::stop::Fault;
+use walk::stop::Missing;
+use walk::stop::Open;
+use walk::stop::Stage;
 
 pub(crate) fn text(t: &[u8]) {
     io::write_all(STDOUT_FILENO, t);

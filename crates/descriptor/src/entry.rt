@@ -5,27 +5,21 @@ use bits::upper;
 ghost use mathlib.Core.Path.{_≡_};
 ghost use Rattle.descriptor.specs.Entry as Entries;
 
-// What a read of a descriptor finds: its word, or nothing where its bytes are not all there.
-pub enum Fetch {
-    Absent,
-    Word(u64),
-}
-
-// The sizes that one stage's walk goes by, in bits: a granule of 4KB is 12.
+// The sizes that one stage's walk goes by, in bits: the grain size of the 4KB granule is 12.
 pub struct Geometry {
-    pub granule: u64,
+    pub grainsize: u64,
     pub stride: u64,
-    pub input: u64,
-    pub output: u64,
+    pub inputsize: u64,
+    pub outputsize: u64,
     // The most levels that may lie below a block.
     pub block: u64,
     // A block with that many levels below it and its contiguous bit set is unsettled where the input size is under this.
     pub contiguous: u64,
 }
 
-// What an entry of a table is.
-pub enum Shape {
-    Void,
+// The type of a descriptor: invalid, of a table, or of a page or a block.
+pub enum DescriptorType {
+    Invalid,
     Table,
     Leaf,
 }
@@ -53,23 +47,27 @@ pub struct Inherited {
     pub pxn: bool,
 }
 
-// What an entry is, by its bits 1:0 and the number n of levels below it.
-pub fn shape_of(g: Geometry, n: u64, x: u64) -> Shape
-    ensures { λ r. ⌜ r ≡ Entries.shape g n x ⌝ }
+// The type of the descriptor x, by its bits 1:0 and the number n of levels below it.
+pub fn descriptor_type(g: Geometry, n: u64, x: u64) -> DescriptorType
+    ensures { λ r. ⌜ r ≡ Entries.descriptorType g n x ⌝ }
 {
     let block = g.block;
     if bit(x, 0) {
         if bit(x, 1) {
-            if n == 0 { Shape::Leaf } else { Shape::Table }
+            if n == 0 {
+                DescriptorType::Leaf
+            } else {
+                DescriptorType::Table
+            }
         } else if n == 0 {
-            Shape::Void
+            DescriptorType::Invalid
         } else if n <= block {
-            Shape::Leaf
+            DescriptorType::Leaf
         } else {
-            Shape::Void
+            DescriptorType::Invalid
         }
     } else {
-        Shape::Void
+        DescriptorType::Invalid
     }
 }
 
@@ -78,32 +76,32 @@ fn contiguous(g: Geometry, n: u64, x: u64) -> bool
     ensures { λ r. ⌜ r ≡ Entries.contiguous g n x ⌝ }
 {
     let block = g.block;
-    let input = g.input;
+    let inputsize = g.inputsize;
     let least = g.contiguous;
-    (n == block) & (input < least) & bit(x, 52)
+    (n == block) & (inputsize < least) & bit(x, 52)
 }
 
 // A table's entry: the next table, or an address beyond the output size.
 fn at_table(g: Geometry, n: u64, x: u64) -> Entry
-    ensures { λ r. ⌜ r ≡ Entries.decodeAs g n x Shape.Table ⌝ }
+    ensures { λ r. ⌜ r ≡ Entries.decodeAs g n x DescriptorType.Table ⌝ }
 {
-    let output = g.output;
-    let granule = g.granule;
-    if beyond(x, output) {
+    let outputsize = g.outputsize;
+    let grainsize = g.grainsize;
+    if beyond(x, outputsize) {
         Entry::Fault(FaultKind::AddressSize)
     } else {
-        Entry::Next(upper(x, granule))
+        Entry::Next(upper(x, grainsize))
     }
 }
 
 // A page's or a block's entry; bit 10 is its access flag.
 fn at_leaf(g: Geometry, n: u64, x: u64) -> Entry
-    ensures { λ r. ⌜ r ≡ Entries.decodeAs g n x Shape.Leaf ⌝ }
+    ensures { λ r. ⌜ r ≡ Entries.decodeAs g n x DescriptorType.Leaf ⌝ }
 {
-    let output = g.output;
+    let outputsize = g.outputsize;
     if contiguous(g, n, x) {
         Entry::Unsettled
-    } else if beyond(x, output) {
+    } else if beyond(x, outputsize) {
         Entry::Fault(FaultKind::AddressSize)
     } else if bit(x, 10) {
         Entry::Final
@@ -116,11 +114,11 @@ fn at_leaf(g: Geometry, n: u64, x: u64) -> Entry
 pub fn decode(g: Geometry, n: u64, x: u64) -> Entry
     ensures { λ r. ⌜ r ≡ Entries.decode g n x ⌝ }
 {
-    let shape = shape_of(g, n, x);
-    match shape {
-        Shape::Void => Entry::Fault(FaultKind::Translation),
-        Shape::Table => at_table(g, n, x),
-        Shape::Leaf => at_leaf(g, n, x),
+    let descriptor_type = descriptor_type(g, n, x);
+    match descriptor_type {
+        DescriptorType::Invalid => Entry::Fault(FaultKind::Translation),
+        DescriptorType::Table => at_table(g, n, x),
+        DescriptorType::Leaf => at_leaf(g, n, x),
     }
 }
 

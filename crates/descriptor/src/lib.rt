@@ -1,3 +1,3 @@
-// Descriptors: what a read finds, what an entry of a table says, and what its permissions allow.
+// Descriptors: what an entry of a table says, and what its permissions allow.
 pub mod entry;
 pub mod permission;

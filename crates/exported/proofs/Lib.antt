@@ -1,1 +1,1 @@
-pub mod Ranks
+pub mod Sorts

@@ -1,21 +1,25 @@
 // The question as a call on numbers and byte slices, for programs in C and Rust.
 use access::Access;
+use answers::Answer;
+use answers::Refusal;
+use attributes::Cacheability;
+use attributes::DeviceType;
 use attributes::MemoryType;
 use attributes::Shareability;
-use descriptor::entry::FaultKind;
 use registers::El1;
 use registers::El2;
 use registers::hcr::Hcr;
 use registers::sctlr::Sctlr;
 use registers::tcr::Tcr;
 use registers::vtcr::Vtcr;
-use walk::answer::Answer;
-use walk::answer::Refusal;
-use walk::answer::Stage;
-use walk::answer::Translation;
+use stages::both::Translation;
+use walk::stop::Stage;
 ghost use mathlib.Core.Path.{_≡_};
-ghost use Rattle.walk.specs.Answers.{faultNumber, refusalNumber, stageNumber};
+ghost use Prim.Native.Nat.{_≤_};
+ghost use Rattle.answers.specs.Answers.{stageNumber, carries};
+ghost use Rattle.answers.specs.declared.Answer.the-variants as Answers;
 ghost use Rattle.exported.specs.Words as Numbers;
+ghost use Rattle.exported.specs.Parts as Parts;
 
 // An answer in numbers: its own, then what it carries, and 0 in the place of what it does not.
 #[repr(C)]
@@ -34,19 +38,38 @@ pub struct Words {
     pub reads: u64,
 }
 
-fn memory_word(m: MemoryType) -> u64
-    ensures { λ r. ⌜ r ≡ Numbers.memoryWord m ⌝ }
+fn device_code(d: DeviceType) -> u64
+    ensures { λ r. ⌜ r ≡ Numbers.deviceCode d ⌝ }
 {
-    match m {
-        MemoryType::Device(d) => attributes::device_rank(d),
-        MemoryType::Normal { outer, inner } => {
-            16 + 4 * attributes::cache_rank(outer) + attributes::cache_rank(inner)
-        }
+    match d {
+        DeviceType::NGnRnE => 0,
+        DeviceType::NGnRE => 1,
+        DeviceType::NGRE => 2,
+        DeviceType::GRE => 3,
     }
 }
 
-fn shareability_word(s: Shareability) -> u64
-    ensures { λ r. ⌜ r ≡ Numbers.shareabilityWord s ⌝ }
+fn cache_code(c: Cacheability) -> u64
+    ensures { λ r. ⌜ (r ≡ Numbers.cacheCode c) × (r ≤ 2) ⌝ }
+{
+    match c {
+        Cacheability::NonCacheable => 0,
+        Cacheability::WriteThrough => 1,
+        Cacheability::WriteBack => 2,
+    }
+}
+
+fn memory_code(m: MemoryType) -> u64
+    ensures { λ r. ⌜ r ≡ Numbers.memoryCode m ⌝ }
+{
+    match m {
+        MemoryType::Device(d) => device_code(d),
+        MemoryType::Normal { outer, inner } => 16 + 4 * cache_code(outer) + cache_code(inner),
+    }
+}
+
+fn shareability_code(s: Shareability) -> u64
+    ensures { λ r. ⌜ r ≡ Numbers.shareabilityCode s ⌝ }
 {
     match s {
         Shareability::NonShareable => 0,
@@ -61,33 +84,8 @@ fn flag(b: bool) -> u64
     if b { 1 } else { 0 }
 }
 
-fn fault_number(k: FaultKind) -> u64
-    ensures { λ r. ⌜ r ≡ faultNumber k ⌝ }
-{
-    match k {
-        FaultKind::Translation => 1,
-        FaultKind::AddressSize => 2,
-        FaultKind::AccessFlag => 3,
-        FaultKind::Permission => 4,
-    }
-}
-
-fn refusal_number(r: Refusal) -> u64
-    ensures { λ n. ⌜ n ≡ refusalNumber r ⌝ }
-{
-    match r {
-        Refusal::ShortLog => 10,
-        Refusal::HighCapture => 11,
-        Refusal::Settings { item: _ } => 12,
-        Refusal::Unlisted => 13,
-        Refusal::BatchLists => 14,
-        Refusal::AuditLists => 15,
-        Refusal::NoRoot => 16,
-    }
-}
-
-fn item_word(r: Refusal) -> u64
-    ensures { λ n. ⌜ n ≡ Numbers.itemWord r ⌝ }
+fn item_of(r: Refusal) -> u64
+    ensures { λ n. ⌜ n ≡ Parts.itemWord r ⌝ }
 {
     match r {
         Refusal::Settings { item } => item,
@@ -109,8 +107,8 @@ fn stage_number(s: Stage) -> u64
     }
 }
 
-fn on_walk_word(s: Stage) -> u64
-    ensures { λ r. ⌜ r ≡ Numbers.onWalkWord s ⌝ }
+fn on_walk_of(s: Stage) -> u64
+    ensures { λ r. ⌜ r ≡ Parts.onWalkWord s ⌝ }
 {
     match s {
         Stage::One => 0,
@@ -118,8 +116,8 @@ fn on_walk_word(s: Stage) -> u64
     }
 }
 
-fn ipa_word(s: Stage) -> u64
-    ensures { λ r. ⌜ r ≡ Numbers.ipaWord s ⌝ }
+fn ipa_of(s: Stage) -> u64
+    ensures { λ r. ⌜ r ≡ Parts.ipaWord s ⌝ }
 {
     match s {
         Stage::One => 0,
@@ -127,18 +125,18 @@ fn ipa_word(s: Stage) -> u64
     }
 }
 
-fn translated(t: Translation, reads: u64) -> Words
-    ensures { λ r. ⌜ r ≡ Numbers.translated t reads ⌝ }
+fn translated(number: u64, t: Translation, reads: u64) -> Words
+    ensures { λ r. ⌜ r ≡ Numbers.worded number (carries (Answers.Translated t reads)) ⌝ }
 {
     let attributes = t.attributes;
     let memory = attributes.memory;
     let shareability = attributes.shareability;
     Words {
-        number: 0,
+        number,
         item: 0,
         address: t.address,
-        memory: memory_word(memory),
-        shareability: shareability_word(shareability),
+        memory: memory_code(memory),
+        shareability: shareability_code(shareability),
         level1: t.level1,
         level2: t.level2,
         stage: 0,
@@ -149,8 +147,17 @@ fn translated(t: Translation, reads: u64) -> Words
     }
 }
 
-fn stopped(number: u64, address: u64, s: Stage, level: u64, reads: u64) -> Words
-    ensures { λ r. ⌜ r ≡ Numbers.stopped number address s level reads ⌝ }
+// An answer that names a stage.
+fn stopped(
+    number: u64,
+    address: u64,
+    stage: u64,
+    level: u64,
+    onwalk: u64,
+    ipa: u64,
+    reads: u64,
+) -> Words
+    ensures { λ r. ⌜ r ≡ Parts.stopped number address stage level onwalk ipa reads ⌝ }
 {
     Words {
         number,
@@ -160,20 +167,20 @@ fn stopped(number: u64, address: u64, s: Stage, level: u64, reads: u64) -> Words
         shareability: 0,
         level1: 0,
         level2: 0,
-        stage: stage_number(s),
+        stage,
         level,
-        onwalk: on_walk_word(s),
-        ipa: ipa_word(s),
+        onwalk,
+        ipa,
         reads,
     }
 }
 
-fn refused(r: Refusal) -> Words
-    ensures { λ w. ⌜ w ≡ Numbers.refused r ⌝ }
+fn refused(number: u64, item: u64) -> Words
+    ensures { λ w. ⌜ w ≡ Parts.refused number item ⌝ }
 {
     Words {
-        number: refusal_number(r),
-        item: item_word(r),
+        number,
+        item,
         address: 0,
         memory: 0,
         shareability: 0,
@@ -190,23 +197,55 @@ fn refused(r: Refusal) -> Words
 fn in_words(a: Answer) -> Words
     ensures { λ r. ⌜ r ≡ Numbers.words a ⌝ }
 {
+    let number = answers::number(a);
     match a {
-        Answer::Translated { to, reads } => translated(to, reads),
+        Answer::Translated { to, reads } => translated(number, to, reads),
         Answer::Fault { fault, reads } => {
-            let kind = fault.kind;
-            let stage = fault.stage;
-            stopped(fault_number(kind), 0, stage, fault.level, reads)
+            let s = fault.stage;
+            stopped(
+                number,
+                0,
+                stage_number(s),
+                fault.level,
+                on_walk_of(s),
+                ipa_of(s),
+                reads,
+            )
         }
-        Answer::Misaligned { stage, reads } => stopped(5, 0, stage, 0, reads),
+        Answer::Misaligned { stage, reads } => stopped(
+            number,
+            0,
+            stage_number(stage),
+            0,
+            0,
+            ipa_of(stage),
+            reads,
+        ),
         Answer::Absent { missing, reads } => {
-            let stage = missing.stage;
-            stopped(6, missing.address, stage, missing.level, reads)
+            let s = missing.stage;
+            stopped(
+                number,
+                missing.address,
+                stage_number(s),
+                missing.level,
+                on_walk_of(s),
+                0,
+                reads,
+            )
         }
         Answer::Unsettled { open, reads } => {
-            let stage = open.stage;
-            stopped(7, 0, stage, open.level, reads)
+            let s = open.stage;
+            stopped(
+                number,
+                0,
+                stage_number(s),
+                open.level,
+                on_walk_of(s),
+                0,
+                reads,
+            )
         }
-        Answer::Refused(refusal) => refused(refusal),
+        Answer::Refused(refusal) => refused(number, item_of(refusal)),
     }
 }
 

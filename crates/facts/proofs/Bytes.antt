@@ -9,7 +9,7 @@ use Rattle.capture.specs.Sparse.{image}
 use Rattle.capture.proofs.Sparse.{sparse-memory}
 use Rattle.registers.specs.declared.El1.{El1}
 use Rattle.registers.specs.declared.El2.{El2}
-use Rattle.question.specs.Question.{ask}
+use Rattle.answers.specs.Question.{askOver, ask}
 use Rattle.audit.specs.Audit.{audit}
 use Rattle.facts.specs.Asked.{Image, row, before, asked, audited}
 
@@ -24,7 +24,7 @@ length-image ws a (suc n) = ap suc (length-image ws (suc a) n)
 
 pub asked-of-bytes : (c : Image) (r : El2) (g : El1) (a : Access) (words : ℕ) →
     asked c r g a words ≡ row (ask (c .base) (bytes c) r g a (replicate words before))
-unfolding asked ask
+unfolding asked ask askOver
 asked-of-bytes c r g a words =
     rw (length-image (c .words) (c .base) (c .length), length-replicate words before, sparse-memory (c .base) (c .length) (c .words))
 

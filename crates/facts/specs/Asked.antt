@@ -5,10 +5,10 @@ use Prim.Native.Nat.{ℕ}
 use lib.ListN.{replicate}
 use Rattle.access.specs.declared.Access.{Access}
 use Rattle.capture.specs.Sparse.{sparse}
-use Rattle.walk.specs.Answers.{Value, number, carries}
+use Rattle.answers.specs.Answers.{Value, number, carries}
 use Rattle.registers.specs.declared.El1.{El1}
 use Rattle.registers.specs.declared.El2.{El2}
-use Rattle.question.specs.Question.{Told, question, told}
+use Rattle.answers.specs.Question.{Told, askOver}
 use Rattle.audit.specs.Audit.{auditOver}
 use Rattle.audit.specs.declared.AuditAnswer.{AuditAnswer}
 
@@ -33,8 +33,7 @@ before = 0x5A5A
 
 -- a question with a log of so many words
 unfoldable pub asked : Image → El2 → El1 → Access → (words : ℕ) → Row
-asked c r g a words =
-    row (told (sparse (c .base) (c .length) (c .words)) (replicate words before) (question words (c .base) (c .length) r g a))
+asked c r g a words = row (askOver (sparse (c .base) (c .length) (c .words)) (c .base) (c .length) r g a (replicate words before))
 
 unfoldable pub audited : Image → El2 → (grants counts tables levels : List ℕ) → AuditAnswer
 audited c = auditOver (sparse (c .base) (c .length) (c .words)) (c .base) (c .length)

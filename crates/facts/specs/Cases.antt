@@ -12,17 +12,17 @@ use Rattle.attributes.specs.declared.Cacheability.the-variants.{WriteBack}
 use Rattle.attributes.specs.declared.MemoryType.the-variants.{Device, Normal}
 use Rattle.attributes.specs.declared.Shareability.the-variants.{OuterShareable, InnerShareable}
 use Rattle.capture.specs.Sparse.{sparse}
-use Rattle.walk.specs.Answers.{Value, address, attributes, stage, level, level1, level2, on-walk, ipa, reads, item}
+use Rattle.answers.specs.Answers.{Value, address, attributes, stage, level, level1, level2, on-walk, ipa, reads, item}
 use Rattle.registers.specs.declared.El1.{El1}
 use Rattle.registers.specs.declared.El2.{El2}
 use Rattle.settings.specs.Settings.{settings}
 use Rattle.level.specs.Level.{fourK, start2, sizeCheck}
-use Rattle.question.specs.Question.{question, told}
-use Rattle.batch.specs.Batch.{Shared, toldBatch}
+use Rattle.answers.specs.Question.{askOver}
+use Rattle.batch.specs.Batch.{Shared, batchOver}
 use Rattle.batch.specs.Ledger.{ascii, line}
 use Rattle.batch.specs.declared.Ledger.{Ledger}
 use Rattle.batch.specs.declared.BatchAnswer.the-variants as Batch
-use Rattle.walk.specs.declared.answer.Refusal.the-variants.{BatchLists}
+use Rattle.answers.specs.declared.Refusal.the-variants.{BatchLists}
 use Rattle.audit.specs.declared.FindingKind.the-variants.{NotCaptured, TouchesGrant, UnlistedTable, OutsideGrants}
 use Rattle.audit.specs.declared.AuditAnswer.the-variants.{Clean, Found}
 use Rattle.facts.specs.Open.{opened}
@@ -94,7 +94,7 @@ unfolding opened asked
 case-A = refl
 
 -- each of A's walks ends at level 3: three on-walk, stage 1's own before the last
-case-A-ends : told (sparse 0x40000000 0x8000 words) (replicate 24 before) (question 24 0x40000000 0x8000 host guest (access 0x1008 0 0)) .ends ≡ 3 ∷ 3 ∷ 3 ∷ 3 ∷ 3 ∷ []
+case-A-ends : askOver (sparse 0x40000000 0x8000 words) 0x40000000 0x8000 host guest (access 0x1008 0 0) (replicate 24 before) .ends ≡ 3 ∷ 3 ∷ 3 ∷ 3 ∷ 3 ∷ []
 unfolding opened
 case-A-ends = refl
 
@@ -243,12 +243,12 @@ corner-none = refl
 -- ---- the batch and its ledger
 
 abbrev pub shared : Shared
-shared = record { base = 0x40000000; length = 0x8000; el2 = host; el1 = guest; kind = 0; el = 0; size = 8 }
+shared = record { el2 = host; el1 = guest; kind = 0; el = 0; size = 8 }
 
 abbrev pub figures : Ledger
 figures = record { asked = 2; translated = 1; faulted = 1; absent = 0; unsettled = 0 }
 
-case-batch : toldBatch (sparse 0x40000000 0x8000 words) shared (0x1008 ∷ 0x2000 ∷ []) (before ∷ before ∷ []) (before ∷ before ∷ [])
+case-batch : batchOver (sparse 0x40000000 0x8000 words) 0x40000000 0x8000 shared (0x1008 ∷ 0x2000 ∷ []) (before ∷ before ∷ []) (before ∷ before ∷ [])
     ≡ record { answer = Batch.Done figures; outputs = 0x90008 ∷ 0 ∷ []; numbers = 0 ∷ 1 ∷ [] }
 unfolding opened
 case-batch = refl
@@ -258,13 +258,13 @@ unfolding opened
 case-line = refl
 
 -- an empty batch is accepted
-case-batch-empty : toldBatch (sparse 0x40000000 0x8000 words) shared [] [] []
+case-batch-empty : batchOver (sparse 0x40000000 0x8000 words) 0x40000000 0x8000 shared [] [] []
     ≡ record { answer = Batch.Done (record { asked = 0; translated = 0; faulted = 0; absent = 0; unsettled = 0 }); outputs = []; numbers = [] }
 unfolding opened
 case-batch-empty = refl
 
 -- lists of unequal length: nothing is written
-case-batch-refused : toldBatch (sparse 0x40000000 0x8000 words) shared (0x1008 ∷ 0x2000 ∷ []) (before ∷ []) (before ∷ before ∷ [])
+case-batch-refused : batchOver (sparse 0x40000000 0x8000 words) 0x40000000 0x8000 shared (0x1008 ∷ 0x2000 ∷ []) (before ∷ []) (before ∷ before ∷ [])
     ≡ record { answer = Batch.Refused BatchLists; outputs = before ∷ []; numbers = before ∷ before ∷ [] }
 unfolding opened
 case-batch-refused = refl

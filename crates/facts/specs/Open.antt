@@ -1,25 +1,28 @@
 -- All definitions that a case computes with, under one name for an `unfolding` line.
 -- Assumes nothing.
 use Rattle.bits.specs.Bits.{pick}
-use Rattle.descriptor.specs.Program.{bind, run, reads, ends}
-use Rattle.descriptor.specs.Entry.{shape, decodeAs}
-use Rattle.attributes.specs.Attributes.{deviceOf, mairNibble, stage2Bits, shareabilityOf, isDevice, isNonCacheable, reported, normal, mairByte, stage2Codes, flatAttributes, deviceRank, cacheRank, shareRank, combineMemory}
+use Rattle.reads.specs.Program.{bind, run, reads, ends}
+use Rattle.descriptor.specs.Entry.{descriptorType, decodeAs}
+use Rattle.attributes.specs.Attributes.{deviceOf, mairNibble, stage2Bits, shareabilityOf, isDevice, isNonCacheable, reported, normal, mairByte, stage2Codes, stage1OffAttributes, deviceRank, cacheRank, shareRank, combineMemory}
 use Rattle.descriptor.specs.Permission.{stage1Permits, stage2Permits}
 use Rattle.capture.specs.Capture.{little, within, memory}
 use Rattle.capture.specs.Sparse.{wordAt, byteAt, image, descriptorAt, sparse}
-use Rattle.walk.specs.Walk.{fetched, follow, walk, walkFrom}
-use Rattle.walk.specs.Stages.{unless, settled, permitted, give, check2, translate2, place1, check1, flat, translate1, finish, access}
-use Rattle.walk.specs.Answers.{answer, number, carries}
+use Rattle.walk.specs.Walk.{ifPresent, follow, walk, walkFrom}
+use Rattle.walk.specs.Checks.{unless, settled, permitted, give}
+use Rattle.walk.specs.Stage2.{check2, translate2}
+use Rattle.stages.specs.Stage1.{place1, check1, stage1Off, translate1}
+use Rattle.stages.specs.Stages.{finish, access}
+use Rattle.answers.specs.Answers.{answer, number, carries}
 use Rattle.settings.specs.Settings.{firstFailing, settings, auditSettings}
 use Rattle.level.specs.Level.{outputSize, start1, start2, sizeCheck, levelsBelow}
 use Rattle.regime.specs.Roots.{rootOf, root2, stage1, stage2}
-use Rattle.question.specs.Refusals.{refuse}
-use Rattle.question.specs.Question.{question, told}
-use Rattle.batch.specs.Batch.{answerTo, outputOf, count, ledger, answered, toldBatch}
+use Rattle.answers.specs.Refusals.{refuse}
+use Rattle.answers.specs.Question.{told, turnedAway, askOver}
+use Rattle.batch.specs.Batch.{answerTo, outputOf, count, ledger, answered, batchOver}
 use Rattle.batch.specs.Ledger.{ascii, digits, decimal, line}
 use Rattle.audit.specs.Lists.{zip, all, ascends, grantFits, grantBefore, tableFits, tableBefore, wellFormed}
 use Rattle.audit.specs.Audit.{orElse, granted, touches, isListed, eachEntry, missing, examineAs, examine, auditTable, auditListed, auditFrom, auditOver}
 
 unfoldable pub opened : Unit {0}
-unfolding pick bind run reads ends shape decodeAs deviceOf mairNibble stage2Bits shareabilityOf isDevice isNonCacheable reported normal mairByte stage2Codes flatAttributes deviceRank cacheRank shareRank combineMemory stage1Permits stage2Permits little within memory wordAt byteAt image descriptorAt sparse fetched follow walk walkFrom unless settled permitted give check2 translate2 place1 check1 flat translate1 finish access answer number carries firstFailing settings auditSettings outputSize start1 start2 sizeCheck levelsBelow rootOf root2 stage1 stage2 refuse question told answerTo outputOf count ledger answered toldBatch ascii digits decimal line zip all ascends grantFits grantBefore tableFits tableBefore wellFormed orElse granted touches isListed eachEntry missing examineAs examine auditTable auditListed auditFrom auditOver
+unfolding pick bind run reads ends descriptorType decodeAs deviceOf mairNibble stage2Bits shareabilityOf isDevice isNonCacheable reported normal mairByte stage2Codes stage1OffAttributes deviceRank cacheRank shareRank combineMemory stage1Permits stage2Permits little within memory wordAt byteAt image descriptorAt sparse ifPresent follow walk walkFrom unless settled permitted give check2 translate2 place1 check1 stage1Off translate1 finish access answer number carries firstFailing settings auditSettings outputSize start1 start2 sizeCheck levelsBelow rootOf root2 stage1 stage2 refuse told turnedAway askOver answerTo outputOf count ledger answered batchOver ascii digits decimal line zip all ascends grantFits grantBefore tableFits tableBefore wellFormed orElse granted touches isListed eachEntry missing examineAs examine auditTable auditListed auditFrom auditOver
 opened = tt

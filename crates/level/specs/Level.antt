@@ -12,7 +12,7 @@ outputSize code = pick (eqb code 0) 32 (pick (eqb code 1) 36 (pick (eqb code 2) 
 
 -- the 4KB granule: 512 entries a table, blocks from level 1
 abbrev pub fourK : (input output : ℕ) → Geometry
-fourK input output = record { granule = 12; stride = 9; input = input; output = output; block = 2; contiguous = 34 }
+fourK input output = record { grainsize = 12; stride = 9; inputsize = input; outputsize = output; block = 2; contiguous = 34 }
 
 -- the input size of a size field
 abbrev pub inputSize : ℕ → ℕ
@@ -20,7 +20,7 @@ inputSize tnsz = 64 - tnsz
 
 -- stage 1's start level (01, Walk): 4 less the strides that the input bits above the granule take, rounded up
 unfoldable pub start1 : Geometry → ℤ
-start1 g = pos 4 -ℤ pos ((g .input - g .granule + (g .stride - 1)) / g .stride)
+start1 g = pos 4 -ℤ pos ((g .inputsize - g .grainsize + (g .stride - 1)) / g .stride)
 
 -- stage 2's start level, -1 for an SL0 of 3 (01, Walk)
 unfoldable pub start2 : (sl0 : ℕ) → ℤ
@@ -28,7 +28,7 @@ start2 sl0 = pos 2 -ℤ pos sl0
 
 -- the size check (01, Walk): the bits of a root's index, below 1 where the start level is too high for the size
 unfoldable pub sizeCheck : Geometry → (start : ℤ) → ℤ
-sizeCheck g start = pos (g .input) -ℤ ((pos 3 -ℤ start) *ℤ pos (g .stride) +ℤ pos (g .granule))
+sizeCheck g start = pos (g .inputsize) -ℤ ((pos 3 -ℤ start) *ℤ pos (g .stride) +ℤ pos (g .grainsize))
 
 -- 3 less a level
 unfoldable pub levelsBelow : ℤ → ℕ

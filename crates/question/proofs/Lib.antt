@@ -1,9 +1,1 @@
-pub mod Refusals
-pub mod Framing
-pub mod Counts
-pub mod Ran
-pub mod Turns
-pub mod Stages
-pub mod Tops
-pub mod Small
 pub mod Telling

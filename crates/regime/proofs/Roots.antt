@@ -13,15 +13,15 @@ use Rattle.bits.specs.Bits.{beyond}
 use Rattle.descriptor.specs.declared.entry.Geometry.{Geometry}
 use Rattle.descriptor.specs.declared.entry.FaultKind.{FaultKind}
 use Rattle.bits.proofs.Tests.{by-pick}
-use Rattle.walk.specs.Stages.{isHigh, inHalf, half, root1At}
-use Rattle.walk.specs.declared.stage.Root.{Root}
-use Rattle.walk.specs.declared.stage.Root.the-variants.{Unusable, Usable}
-use Rattle.walk.specs.declared.stage.Half.{Half}
-use Rattle.walk.specs.declared.stage.Stage1.{Stage1}
-use Rattle.walk.proofs.Accesses.{Aligned, upper-aligned}
+use Rattle.stages.specs.Stage1.{isUpper, inRange, vaRange, root1At}
+use Rattle.walk.specs.declared.table.Root.{Root}
+use Rattle.walk.specs.declared.table.Root.the-variants.{Unusable, Usable}
+use Rattle.stages.specs.declared.stage1.VaRange.{VaRange}
+use Rattle.stages.specs.declared.stage1.Stage1.{Stage1}
+use Rattle.stages.proofs.Accesses.{Aligned, upper-aligned}
 use Rattle.registers.specs.Vtcr
 use Rattle.level.specs.Level.{fourK, inputSize, outputSize, start1, start2, sizeCheck, levelsBelow}
-use Rattle.regime.specs.Roots.{tableOf, rootOf, half1, root2, stage1}
+use Rattle.regime.specs.Roots.{tableOf, rootOf, rangeOf, root2, stage1}
 use Rattle.registers.specs.declared.El1.{El1}
 use Rattle.registers.specs.declared.El2.{El2}
 use Rattle.regime.proofs.Settings.{Sized}
@@ -82,18 +82,18 @@ start2-bits s output (suc (suc (suc l))) h = absurd (omega arith)
 module _ (Q : Root → Type 0) (unusable : (k : FaultKind) (l : ℕ) → Q (Unusable k l)) where
   by-rootOf : (g : Geometry) (n register : ℕ) → Q (Usable (tableOf g n register)) → Q (rootOf g n register)
   unfolding rootOf
-  by-rootOf g n register h = by-pick Q (beyond register (g .output)) (Unusable _ _) _ (λ _. unusable _ _) (λ _. h)
+  by-rootOf g n register h = by-pick Q (beyond register (g .outputsize)) (Unusable _ _) _ (λ _. unusable _ _) (λ _. h)
 
-  -- a half of stage 1 that is not disabled
-  pub by-half1 : (ips tnsz : ℕ) (epd : Bool) (ttbr : ℕ) →
+  -- a VA range of stage 1 that is not disabled
+  pub by-range : (ips tnsz : ℕ) (epd : Bool) (ttbr : ℕ) →
       (let g = fourK (inputSize tnsz) (outputSize ips) in epd ≡ false → Q (Usable (tableOf g (levelsBelow (start1 g)) ttbr))) →
-      Q (half1 ips tnsz epd ttbr .root)
-  by-half1 ips tnsz epd ttbr h = by-pick Q epd (Unusable _ _) _ (λ _. unusable _ _) (λ e. by-rootOf _ _ _ (h e))
+      Q (rangeOf ips tnsz epd ttbr .root)
+  by-range ips tnsz epd ttbr h = by-pick Q epd (Unusable _ _) _ (λ _. unusable _ _) (λ e. by-rootOf _ _ _ (h e))
 
-  -- stage 1's root for an address, by its half
-  pub by-root1At : (s : Stage1) (a : ℕ) → (isHigh s a ≡ true → Q (s .high .root)) → (isHigh s a ≡ false → Q (s .low .root)) → Q (root1At s a)
-  by-root1At s a high low =
-      by-pick Q (inHalf s a) (half s a .root) (Unusable _ _) (λ _. by-pick (λ (h : Half). Q (h .root)) (isHigh s a) (s .high) (s .low) high low) (λ _. unusable _ _)
+  -- stage 1's root for an address, by its VA range
+  pub by-root1At : (s : Stage1) (a : ℕ) → (isUpper s a ≡ true → Q (s .upper .root)) → (isUpper s a ≡ false → Q (s .lower .root)) → Q (root1At s a)
+  by-root1At s a upper lower =
+      by-pick Q (inRange s a) (vaRange s a .root) (Unusable _ _) (λ _. by-pick (λ (h : VaRange). Q (h .root)) (isUpper s a) (s .upper) (s .lower) upper lower) (λ _. unusable _ _)
 
   -- stage 2's root, from a start level that is not negative, with few index bits
   pub by-root2 : (r : El2) →
@@ -112,7 +112,7 @@ module _ (Q : Root → Type 0) (unusable : (k : FaultKind) (l : ℕ) → Q (Unus
 -- of a usable root: tables of 4,096 bytes or more, and at most four levels
 abbrev pub Sane : Root → Type 0
 Sane (Unusable kind level) = Unit {0}
-Sane (Usable t) = (12 ≤ t .geometry .granule) × (t .levels ≤ 4)
+Sane (Usable t) = (12 ≤ t .geometry .grainsize) × (t .levels ≤ 4)
 
 few-below : (z : ℤ) (l : ℕ) → z ≡ pos l → levelsBelow z ≤ 3
 unfolding levelsBelow
@@ -123,9 +123,9 @@ root2-sane r = by-root2 Sane (λ k l. tt) r (λ l e _. (omega arith, suc-le-suc 
 
 -- ---- alignment
 
-half-aligned : (ips tnsz : ℕ) (epd : Bool) (ttbr : ℕ) → Aligned (half1 ips tnsz epd ttbr .root)
-half-aligned ips tnsz epd ttbr = by-half1 Aligned (λ k l. tt) ips tnsz epd ttbr (λ _. (upper-aligned ttbr _, λ x. upper-aligned x 9))
+range-aligned : (ips tnsz : ℕ) (epd : Bool) (ttbr : ℕ) → Aligned (rangeOf ips tnsz epd ttbr .root)
+range-aligned ips tnsz epd ttbr = by-range Aligned (λ k l. tt) ips tnsz epd ttbr (λ _. (upper-aligned ttbr _, λ x. upper-aligned x 9))
 
 pub root1-aligned : (r : El2) (g : El1) (a : ℕ) → Aligned (root1At (stage1 r g) a)
 unfolding stage1
-root1-aligned r g a = by-root1At Aligned (λ k l. tt) (stage1 r g) a (λ _. half-aligned _ _ _ _) (λ _. half-aligned _ _ _ _)
+root1-aligned r g a = by-root1At Aligned (λ k l. tt) (stage1 r g) a (λ _. range-aligned _ _ _ _) (λ _. range-aligned _ _ _ _)

@@ -9,12 +9,12 @@ use Rattle.bits.specs.Bits.{pick, upper, beyond}
 use Rattle.descriptor.specs.Entry.{shift}
 use Rattle.descriptor.specs.declared.entry.Geometry.{Geometry}
 use Rattle.descriptor.specs.declared.entry.FaultKind.the-variants.{Translation, AddressSize}
-use Rattle.walk.specs.declared.stage.Table.{Table}
-use Rattle.walk.specs.declared.stage.Root.{Root}
-use Rattle.walk.specs.declared.stage.Root.the-variants.{Unusable, Usable}
-use Rattle.walk.specs.declared.stage.Half.{Half}
-use Rattle.walk.specs.declared.stage.Stage1.{Stage1}
-use Rattle.walk.specs.declared.stage.Stage2.{Stage2}
+use Rattle.walk.specs.declared.table.Table.{Table}
+use Rattle.walk.specs.declared.table.Root.{Root}
+use Rattle.walk.specs.declared.table.Root.the-variants.{Unusable, Usable}
+use Rattle.stages.specs.declared.stage1.VaRange.{VaRange}
+use Rattle.stages.specs.declared.stage1.Stage1.{Stage1}
+use Rattle.walk.specs.declared.stage2.Stage2.{Stage2}
 use Rattle.level.specs.Level.{fourK, inputSize, outputSize, start1, start2, sizeCheck, levelsBelow}
 use Rattle.registers.specs.Tcr
 use Rattle.registers.specs.Vtcr
@@ -30,17 +30,17 @@ use Rattle.registers.specs.declared.El2.{El2}
 -- 3 + the index bits is 01's b: a base is aligned to its table's size, however many entries it has.
 abbrev pub tableOf : Geometry → (n register : ℕ) → Table
 tableOf g n register =
-    record { geometry = g; levels = suc n; bits = g .input - shift g n; base = upper register (3 + (g .input - shift g n)) }
+    record { geometry = g; levels = suc n; bits = g .inputsize - shift g n; base = upper register (3 + (g .inputsize - shift g n)) }
 
 -- no bit of a base register may lie beyond the output size (01, Walk, output size)
 unfoldable pub rootOf : Geometry → (n register : ℕ) → Root
-rootOf g n register = pick (beyond register (g .output)) (Unusable AddressSize 0) (Usable (tableOf g n register))
+rootOf g n register = pick (beyond register (g .outputsize)) (Unusable AddressSize 0) (Usable (tableOf g n register))
 
--- a half of stage 1, by its size field, EPD and TTBR
-abbrev pub half1 : (ips tnsz : ℕ) (epd : Bool) (ttbr : ℕ) → Half
-half1 ips tnsz epd ttbr =
+-- a VA range of stage 1, by its size field, EPD and TTBR
+abbrev pub rangeOf : (ips tnsz : ℕ) (epd : Bool) (ttbr : ℕ) → VaRange
+rangeOf ips tnsz epd ttbr =
     let g = fourK (inputSize tnsz) (outputSize ips) in
-    record { size = inputSize tnsz; root = pick epd (Unusable Translation 0) (rootOf g (levelsBelow (start1 g)) ttbr) }
+    record { inputsize = inputSize tnsz; root = pick epd (Unusable Translation 0) (rootOf g (levelsBelow (start1 g)) ttbr) }
 
 -- stage 2 (01, Walk) starts at no level below 0, at level 0 only where PAMax is over 42, and with 1 to 13 index bits
 unfoldable pub root2 : El2 → Root
@@ -63,8 +63,8 @@ stage1 r g =
       dc = Hcr.dc (r .hcr);
       tbi0 = Tcr.tbi0 (g .tcr);
       tbi1 = Tcr.tbi1 (g .tcr);
-      low = half1 (Tcr.ips (g .tcr)) (Tcr.t0sz (g .tcr)) (Tcr.epd0 (g .tcr)) (g .ttbr0);
-      high = half1 (Tcr.ips (g .tcr)) (Tcr.t1sz (g .tcr)) (Tcr.epd1 (g .tcr)) (g .ttbr1);
+      lower = rangeOf (Tcr.ips (g .tcr)) (Tcr.t0sz (g .tcr)) (Tcr.epd0 (g .tcr)) (g .ttbr0);
+      upper = rangeOf (Tcr.ips (g .tcr)) (Tcr.t1sz (g .tcr)) (Tcr.epd1 (g .tcr)) (g .ttbr1);
       mair = g .mair;
       c = Sctlr.c (g .sctlr);
       i = Sctlr.i (g .sctlr);
@@ -75,7 +75,7 @@ unfoldable pub stage2 : El2 → Stage2
 stage2 r =
     record {
       on = stage2On r;
-      size = inputSize (Vtcr.t0sz (r .vtcr));
+      inputsize = inputSize (Vtcr.t0sz (r .vtcr));
       root = root2 r;
       cd = Hcr.cd (r .hcr);
       id = Hcr.id (r .hcr);

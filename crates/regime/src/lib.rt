@@ -7,7 +7,7 @@ ghost use lib.IntN.{pos};
 ghost use lib.Signed.{ltZ};
 ghost use Rattle.bits.specs.Bits.{pick};
 ghost use Rattle.descriptor.specs.declared.entry.FaultKind.the-variants.{Translation};
-ghost use Rattle.walk.specs.declared.stage.Root.the-variants.{Unusable};
+ghost use Rattle.walk.specs.declared.table.Root.the-variants.{Unusable};
 ghost use Rattle.level.specs.Level.{fourK};
 ghost use Rattle.registers.specs.Tcr as TcrFields;
 ghost use Rattle.regime.specs.Roots as Roots;
@@ -15,9 +15,9 @@ use descriptor::entry::FaultKind;
 use descriptor::entry::Geometry;
 use registers::El1;
 use registers::El2;
-use walk::stage::Half;
-use walk::stage::Root;
-use walk::stage::Table;
+use stages::stage1::VaRange;
+use walk::table::Root;
+use walk::table::Table;
 
 // The root table at a base register, with n levels below it, in the 4KB granule.
 fn table_of(input: u64, output: u64, n: u64, register: u64) -> Table
@@ -27,10 +27,10 @@ fn table_of(input: u64, output: u64, n: u64, register: u64) -> Table
     let width = level::less(input, 12 + 9 * n);
     let base = bits::upper(register, 3 + width);
     let geometry = Geometry {
-        granule: 12,
+        grainsize: 12,
         stride: 9,
-        input,
-        output,
+        inputsize: input,
+        outputsize: output,
         block: 2,
         contiguous: 34,
     };
@@ -62,16 +62,16 @@ fn root_unless(test: bool, input: u64, output: u64, n: u64, register: u64) -> Ro
     Root::Usable(table_of(input, output, n, register))
 }
 
-// A half of stage 1, by its size field, EPD and TTBR.
-fn half1(ips: u64, tnsz: u64, epd: bool, ttbr: u64) -> Half
+// A VA range of stage 1, by its size field, EPD and TTBR.
+fn range_of(ips: u64, tnsz: u64, epd: bool, ttbr: u64) -> VaRange
     requires { ⌜ tnsz < 64 ⌝ }
-    ensures { λ r. ⌜ r ≡ Roots.half1 ips tnsz epd ttbr ⌝ }
+    ensures { λ r. ⌜ r ≡ Roots.rangeOf ips tnsz epd ttbr ⌝ }
 {
-    let size = 64 - tnsz;
+    let inputsize = 64 - tnsz;
     let n = level::levels_below(level::start1(tnsz));
-    Half {
-        size,
-        root: root_unless(epd, size, level::output_size(ips), n, ttbr),
+    VaRange {
+        inputsize,
+        root: root_unless(epd, inputsize, level::output_size(ips), n, ttbr),
     }
 }
 
@@ -98,36 +98,36 @@ pub fn root2(r: El2) -> Root
     )
 }
 
-// The half of stage 1 that TTBR0 translates.
-fn low_half(g: El1) -> Half
-    ensures { λ r. ⌜ r ≡ Roots.half1 (TcrFields.ips (g .tcr)) (TcrFields.t0sz (g .tcr)) (TcrFields.epd0 (g .tcr)) (g .ttbr0) ⌝ }
+// The VA range that TTBR0 translates.
+fn lower_range(g: El1) -> VaRange
+    ensures { λ r. ⌜ r ≡ Roots.rangeOf (TcrFields.ips (g .tcr)) (TcrFields.t0sz (g .tcr)) (TcrFields.epd0 (g .tcr)) (g .ttbr0) ⌝ }
 {
     let tcr = g.tcr;
-    half1(tcr.ips(), tcr.t0sz(), tcr.epd0(), g.ttbr0)
+    range_of(tcr.ips(), tcr.t0sz(), tcr.epd0(), g.ttbr0)
 }
 
-// The half that TTBR1 translates.
-fn high_half(g: El1) -> Half
-    ensures { λ r. ⌜ r ≡ Roots.half1 (TcrFields.ips (g .tcr)) (TcrFields.t1sz (g .tcr)) (TcrFields.epd1 (g .tcr)) (g .ttbr1) ⌝ }
+// The VA range that TTBR1 translates.
+fn upper_range(g: El1) -> VaRange
+    ensures { λ r. ⌜ r ≡ Roots.rangeOf (TcrFields.ips (g .tcr)) (TcrFields.t1sz (g .tcr)) (TcrFields.epd1 (g .tcr)) (g .ttbr1) ⌝ }
 {
     let tcr = g.tcr;
-    half1(tcr.ips(), tcr.t1sz(), tcr.epd1(), g.ttbr1)
+    range_of(tcr.ips(), tcr.t1sz(), tcr.epd1(), g.ttbr1)
 }
 
-pub fn stage1(r: El2, g: El1) -> walk::stage::Stage1
+pub fn stage1(r: El2, g: El1) -> stages::stage1::Stage1
     ensures { λ s. ⌜ s ≡ Roots.stage1 r g ⌝ }
 {
     let hcr = r.hcr;
     let tcr = g.tcr;
     let sctlr = g.sctlr;
-    walk::stage::Stage1 {
+    stages::stage1::Stage1 {
         on: settings::stage1_on(r, g),
         pamax: r.pamax,
         dc: hcr.dc(),
         tbi0: tcr.tbi0(),
         tbi1: tcr.tbi1(),
-        low: low_half(g),
-        high: high_half(g),
+        lower: lower_range(g),
+        upper: upper_range(g),
         mair: g.mair,
         c: sctlr.c(),
         i: sctlr.i(),
@@ -135,14 +135,14 @@ pub fn stage1(r: El2, g: El1) -> walk::stage::Stage1
     }
 }
 
-pub fn stage2(r: El2) -> walk::stage::Stage2
+pub fn stage2(r: El2) -> walk::stage2::Stage2
     ensures { λ s. ⌜ s ≡ Roots.stage2 r ⌝ }
 {
     let hcr = r.hcr;
     let vtcr = r.vtcr;
-    walk::stage::Stage2 {
+    walk::stage2::Stage2 {
         on: settings::stage2_on(r),
-        size: 64 - vtcr.t0sz(),
+        inputsize: 64 - vtcr.t0sz(),
         root: root2(r),
         cd: hcr.cd(),
         id: hcr.id(),

@@ -1,7 +1,7 @@
 ghost use mathlib.Core.Path.{_≡_};
 ghost use Rattle.registers.specs.Hcr as HcrFields;
 
-// HCR_EL2: where its fields lie, and the masks of their values.
+// HCR_EL2: where its flags lie.
 pub struct Hcr(pub u64);
 
 impl Hcr {

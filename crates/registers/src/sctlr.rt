@@ -1,7 +1,7 @@
 ghost use mathlib.Core.Path.{_≡_};
 ghost use Rattle.registers.specs.Sctlr as SctlrFields;
 
-// SCTLR_EL1 and SCTLR_EL2: where its fields lie, and the masks of their values.
+// SCTLR_EL1 and SCTLR_EL2: where their flags lie.
 pub struct Sctlr(pub u64);
 
 impl Sctlr {

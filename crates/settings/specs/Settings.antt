@@ -60,18 +60,27 @@ unfoldable pub firstFailing : List (ℕ × Bool) → ℕ
 firstFailing [] = 0
 firstFailing (i ∷ l) = pick (i .1) (firstFailing l) (i .0)
 
--- a question's
+-- ---- the items in their order, each with its number
+
+-- items 1 to 3, and then others
+abbrev pub firstItems : El2 → List (ℕ × Bool) → List (ℕ × Bool)
+firstItems r others = (1, listedPamax (r .pamax)) ∷ (2, not (Hcr.tge (r .hcr))) ∷ (3, Hcr.rw (r .hcr)) ∷ others
+
+-- items 8 and 9, which are stage 2's
+abbrev pub lastItems : El2 → List (ℕ × Bool)
+lastItems r = (8, item8 r) ∷ (9, item9 r) ∷ []
+
+abbrev pub items : El2 → El1 → List (ℕ × Bool)
+items r g = firstItems r ((4, item4El1 r g && item4El2 r) ∷ (5, item5 r g) ∷ (6, item6 r g) ∷ (7, item7 r g) ∷ lastItems r)
+
+-- the audit goes by no register of the guest
+abbrev pub auditItems : El2 → List (ℕ × Bool)
+auditItems r = firstItems r ((4, item4El2 r) ∷ lastItems r)
+
+-- a question's and a batch's
 unfoldable pub settings : El2 → El1 → ℕ
-settings r g =
-    firstFailing (
-    (1, listedPamax (r .pamax)) ∷ (2, not (Hcr.tge (r .hcr))) ∷ (3, Hcr.rw (r .hcr)) ∷ (4, item4El1 r g && item4El2 r)
-    ∷ (5, item5 r g) ∷ (6, item6 r g) ∷ (7, item7 r g) ∷ (8, item8 r) ∷ (9, item9 r) ∷ []
-    )
+settings r g = firstFailing (items r g)
 
 -- the audit's
 unfoldable pub auditSettings : El2 → ℕ
-auditSettings r =
-    firstFailing (
-    (1, listedPamax (r .pamax)) ∷ (2, not (Hcr.tge (r .hcr))) ∷ (3, Hcr.rw (r .hcr)) ∷ (4, item4El2 r)
-    ∷ (8, item8 r) ∷ (9, item9 r) ∷ []
-    )
+auditSettings r = firstFailing (auditItems r)

@@ -16,7 +16,7 @@ use registers::sctlr::Sctlr;
 use registers::tcr::Tcr;
 use registers::vtcr::Vtcr;
 
-// Stage 1 is on unless default cacheability is.
+// Stage 1 is on by SCTLR_EL1.M, unless HCR_EL2.DC is set.
 pub fn stage1_on(r: El2, g: El1) -> bool
     ensures { λ on. ⌜ on ≡ Settings.stage1On r g ⌝ }
 {
@@ -25,7 +25,7 @@ pub fn stage1_on(r: El2, g: El1) -> bool
     sctlr.m() & !hcr.dc()
 }
 
-// Default cacheability turns stage 2 on too.
+// Stage 2 is on by HCR_EL2.VM, and by DC too.
 pub fn stage2_on(r: El2) -> bool
     ensures { λ on. ⌜ on ≡ Settings.stage2On r ⌝ }
 {
@@ -72,7 +72,7 @@ fn item5(on: bool, tcr: Tcr) -> bool
     implies(on, tcr.ips() <= 5)
 }
 
-// A half that is walked has an accepted size and the 4KB granule, which is 0 in TG0 and 2 in TG1.
+// A VA range that is walked has an accepted size and the 4KB granule, which is 0 in TG0 and 2 in TG1.
 fn item6(on: bool, tcr: Tcr) -> bool
     ensures { λ yes. ⌜ yes ≡
         Settings.implies (on && not (TcrFields.epd0 tcr)) (Settings.listedSizeField (TcrFields.t0sz tcr) && eqb (TcrFields.tg0 tcr) 0) ⌝ }

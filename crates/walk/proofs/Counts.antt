@@ -1,4 +1,5 @@
--- How many reads an access makes: with n1 and n2 levels at most n1 x (n2 + 1) + n2, met by a translated access exactly when each walk ends at level 3.
+-- How many reads a walk makes, of which each descriptor takes c reads to place: at most (c + 1) a level, met exactly when each walk ends at level 3.
+-- And stage 2's translation: at most one a level.
 -- Assumes nothing.
 use mathlib.Core.Path.{_≡_, refl, sym, subst}
 use mathlib.Core.Bool.{Bool, true, false}
@@ -7,29 +8,29 @@ use Prim.Native.Nat.{ℕ, zero, suc, _+_, _-_, _*_, zero-le}
 use native.Mathlib.Nat.{mul-one, zero-mul, add-zero}
 use native.Mathlib.Omega.{arith}
 use Rattle.bits.specs.Bits.{pick}
-use Rattle.descriptor.specs.Program.{Request, done, note, bind, run, reads, ends, nil, cons}
+use Rattle.reads.specs.Program.{Request, done, note, bind, run, reads, ends, nil, cons}
 use Rattle.descriptor.specs.Entry.{decode}
 use Rattle.access.specs.declared.Access.{Access}
-use Rattle.descriptor.specs.declared.entry.Fetch.{Fetch}
+use Rattle.reads.specs.declared.Read.{Read}
 use Rattle.descriptor.specs.declared.entry.Geometry.{Geometry}
 use Rattle.descriptor.specs.declared.entry.Entry.{Entry}
 use Rattle.descriptor.specs.declared.entry.Entry.the-variants as E
 use Rattle.descriptor.specs.declared.entry.Inherited.{Inherited}
 use Rattle.bits.proofs.Tests.{by-pick}
-use Rattle.descriptor.proofs.Tally.{AllThree, Tight, tight-stop, tight-done, tight-bind, tight-choice, tight-ask}
-use Rattle.walk.specs.declared.answer.Stage.{Stage}
-use Rattle.walk.specs.declared.answer.Stage.the-variants.{One, Two}
-use Rattle.walk.specs.declared.answer.Stop.{Stop}
-use Rattle.walk.specs.declared.stage.Leaf.{Leaf}
-use Rattle.walk.specs.declared.stage.Output.{Output}
-use Rattle.walk.specs.declared.stage.Root.{Root}
-use Rattle.walk.specs.declared.stage.Root.the-variants.{Unusable, Usable}
-use Rattle.walk.specs.declared.stage.Checked.{Checked}
-use Rattle.walk.specs.declared.stage.Checked.the-variants.{Passed, Stopped}
-use Rattle.walk.specs.declared.stage.Stage1.{Stage1}
-use Rattle.walk.specs.declared.stage.Stage2.{Stage2}
-use Rattle.walk.specs.Walk.{Reading, fetched, follow, walk, walkFrom}
-use Rattle.walk.specs.Stages.{give, root2At, check2, translate2, place1, root1At, check1, flat, translate1, finish, access}
+use Rattle.reads.proofs.Tally.{AllThree, Tight, tight-stop, tight-done, tight-bind, tight-choice, tight-ask}
+use Rattle.walk.specs.declared.stop.Stage.{Stage}
+use Rattle.walk.specs.declared.stop.Stage.the-variants.{One, Two}
+use Rattle.walk.specs.declared.stop.Stop.{Stop}
+use Rattle.walk.specs.declared.table.Leaf.{Leaf}
+use Rattle.walk.specs.declared.check.Output.{Output}
+use Rattle.walk.specs.declared.table.Root.{Root}
+use Rattle.walk.specs.declared.table.Root.the-variants.{Unusable, Usable}
+use Rattle.walk.specs.declared.check.Checked.{Checked}
+use Rattle.walk.specs.declared.check.Checked.the-variants.{Passed, Stopped}
+use Rattle.walk.specs.declared.stage2.Stage2.{Stage2}
+use Rattle.walk.specs.Walk.{Reading, ifPresent, follow, walk, walkFrom}
+use Rattle.walk.specs.Checks.{give}
+use Rattle.walk.specs.Stage2.{root2At, check2, translate2}
 
 -- a usable root has n levels
 abbrev pub HasLevels : ℕ → Root → Type 0
@@ -41,10 +42,10 @@ above-three : (n : ℕ) → AllThree ((3 - suc n) ∷ []) → ⊥
 above-three n (cons e h) = omega arith
 
 -- what both choices of a root have, the choice has
-pick-levels : (n : ℕ) (b : Bool) (p q : Root) → HasLevels n p → HasLevels n q → HasLevels n (pick b p q)
+pub pick-levels : (n : ℕ) (b : Bool) (p q : Root) → HasLevels n p → HasLevels n q → HasLevels n (pick b p q)
 pick-levels n b p q hp hq = by-pick (HasLevels n) b p q (λ e. hp) (λ e. hq)
 
-module _ (m : Request → Fetch) where
+module _ (m : Request → Read) where
   -- ---- one walk, of which each descriptor takes c reads to place
 
   tight-leaf : (n c : ℕ) (l : Leaf) → Tight {E = Stop} m (n * suc c) (note (3 - n) (done l))
@@ -62,7 +63,7 @@ module _ (m : Request → Fetch) where
 
   module _ (place : ℕ → Reading ℕ) (c : ℕ) (placed : (a : ℕ) → Tight m c (place a)) where
     tight-walk : (g : Geometry) (s : Stage) (input k j table : ℕ) (h : Inherited) → Tight m (k * suc c) (walk place g s input k j table h)
-    unfolding walk fetched
+    unfolding walk ifPresent
     tight-walk g s input zero j table h = tight-stop m (zero * suc c) _
     tight-walk g s input (suc n) j table h =
         let e : c + suc (n * suc c) ≡ suc n * suc c = omega arith in
@@ -70,17 +71,17 @@ module _ (m : Request → Fetch) where
         (tight-bind m c (suc (n * suc c)) _ _ (placed _)
         (λ at. tight-ask m (n * suc c) _ _ _ refl (λ x. tight-follow g s n x h _ c (λ t i. tight-walk g s input n (g .stride) t i) (decode g n x))))
 
-    tight-from : (s : Stage) (input n : ℕ) (root : Root) → HasLevels n root → Tight m (n * suc c) (walkFrom place s input root)
+    pub tight-from : (s : Stage) (input n : ℕ) (root : Root) → HasLevels n root → Tight m (n * suc c) (walkFrom place s input root)
     unfolding walkFrom
     tight-from s input n (Unusable kind level) h = tight-stop m _ _
     tight-from s input n (Usable t) h = subst (λ z. Tight m (z * suc c) (walkFrom place s input (Usable t))) h (tight-walk _ _ _ _ _ _ _)
 
   -- ---- steps that read nothing
 
-  tight-then : {A B : Type 0} (c : ℕ) (p : Reading A) (f : A → Reading B) → Tight m c p → ((a : A) → Tight m 0 (f a)) → Tight m c (bind p f)
+  pub tight-then : {A B : Type 0} (c : ℕ) (p : Reading A) (f : A → Reading B) → Tight m c p → ((a : A) → Tight m 0 (f a)) → Tight m c (bind p f)
   tight-then c p f hp hf = subst (λ z. Tight m z (bind p f)) (add-zero c) (tight-bind m c 0 p f hp hf)
 
-  tight-give : (c : Checked) → Tight m 0 (give c)
+  pub tight-give : (c : Checked) → Tight m 0 (give c)
   unfolding give
   tight-give (Passed o) = tight-done m o
   tight-give (Stopped e) = tight-stop m 0 e
@@ -88,37 +89,10 @@ module _ (m : Request → Fetch) where
   -- ---- the stages, stage 2 with n2 levels
 
   module _ (s : Stage2) (a : Access) (n2 : ℕ) (levels : HasLevels n2 (s .root)) where
-    tight-translate2 : (w : Bool) (ipa : ℕ) → Tight m n2 (translate2 s a w ipa)
+    pub tight-translate2 : (w : Bool) (ipa : ℕ) → Tight m n2 (translate2 s a w ipa)
     unfolding translate2
     tight-translate2 w ipa =
         tight-then n2 _ _
         (subst (λ z. Tight m z (walkFrom done (Two ipa w) ipa (root2At s ipa))) (mul-one n2)
         (tight-from done 0 (tight-done m) (Two ipa w) ipa n2 (root2At s ipa) (pick-levels n2 _ (Unusable _ _) (s .root) tt levels)))
         (λ l. tight-give (check2 s a w ipa l))
-
-    -- the reads of one stage 2 translation: none with stage 2 off
-    abbrev each : ℕ
-    each = pick (s .on) n2 0
-
-    tight-place : (at : ℕ) → Tight m each (place1 s a at)
-    unfolding place1
-    tight-place at =
-        tight-choice m (λ z. z) (s .on) n2 0 (tight-then n2 _ _ (tight-translate2 true at) (λ o. tight-done m _)) (tight-done m at)
-
-    tight-finish : (o : Output) → Tight m each (finish s a o)
-    unfolding finish
-    tight-finish o =
-        tight-choice m (λ z. z) (s .on) n2 0 (tight-then n2 _ _ (tight-translate2 false (o .address)) (λ p. tight-done m _)) (tight-done m _)
-
-    tight-translate1 : (s1 : Stage1) (root : Root) (n1 : ℕ) → HasLevels n1 root → Tight m (pick (s1 .on) n1 0 * suc each) (translate1 s1 root s a)
-    unfolding translate1
-    tight-translate1 s1 root n1 h =
-        tight-choice m (λ z. z * suc each) (s1 .on) n1 0
-        (tight-then _ _ _ (tight-from (place1 s a) each tight-place One (a .address) n1 root h) (λ l. tight-give (check1 s1 a l)))
-        (subst (λ z. Tight m z (give (flat s1 a))) (sym (zero-mul (suc each))) (tight-give (flat s1 a)))
-
-    -- with n1 levels in stage 1's root for the address
-    pub tight-access : (s1 : Stage1) (n1 : ℕ) → HasLevels n1 (root1At s1 (a .address)) →
-        Tight m (pick (s1 .on) n1 0 * suc (pick (s .on) n2 0) + pick (s .on) n2 0) (access s1 s a)
-    unfolding access
-    tight-access s1 n1 h = tight-bind m _ _ _ _ (tight-translate1 s1 (root1At s1 (a .address)) n1 h) tight-finish

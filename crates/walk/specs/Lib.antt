@@ -1,3 +1,5 @@
 pub mod Walk
-pub mod Stages
-pub mod Answers
+pub mod Checks
+pub mod Stage2
+pub mod Calls
+pub mod Entered

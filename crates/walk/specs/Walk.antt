@@ -1,24 +1,24 @@
--- The table walk of one stage, over any geometry (01, Walk).
+-- The table walk of one stage, over any geometry (01, Walk). Arm's pseudocode has it as AArch64.TranslationTableWalk.
 -- Assumes nothing.
 use Prim.Native.Nat.{ℕ, zero, suc, _+_, _-_, _*_}
 use Rattle.bits.specs.Bits.{field}
-use Rattle.descriptor.specs.Program.{Reader, stage-1, stage-2, Request, Program, done, stop, note, ask, bind}
+use Rattle.reads.specs.Program.{Reader, stage-1, stage-2, Request, Program, done, stop, note, ask, bind}
 use Rattle.descriptor.specs.Entry.{shift, decode, nothing, inherit}
-use Rattle.descriptor.specs.declared.entry.Fetch.{Fetch}
-use Rattle.descriptor.specs.declared.entry.Fetch.the-variants.{Absent, Word}
+use Rattle.reads.specs.declared.Read.{Read}
+use Rattle.reads.specs.declared.Read.the-variants.{Absent, Word}
 use Rattle.descriptor.specs.declared.entry.Geometry.{Geometry}
 use Rattle.descriptor.specs.declared.entry.FaultKind.{FaultKind}
 use Rattle.descriptor.specs.declared.entry.FaultKind.the-variants.{Translation}
 use Rattle.descriptor.specs.declared.entry.Entry.{Entry}
 use Rattle.descriptor.specs.declared.entry.Entry.the-variants as E
 use Rattle.descriptor.specs.declared.entry.Inherited.{Inherited}
-use Rattle.walk.specs.declared.answer.Stage.{Stage}
-use Rattle.walk.specs.declared.answer.Stage.the-variants.{One, Two}
-use Rattle.walk.specs.declared.answer.Stop.{Stop}
-use Rattle.walk.specs.declared.answer.Stop.the-variants as S
-use Rattle.walk.specs.declared.stage.Leaf.{Leaf}
-use Rattle.walk.specs.declared.stage.Root.{Root}
-use Rattle.walk.specs.declared.stage.Root.the-variants.{Unusable, Usable}
+use Rattle.walk.specs.declared.stop.Stage.{Stage}
+use Rattle.walk.specs.declared.stop.Stage.the-variants.{One, Two}
+use Rattle.walk.specs.declared.stop.Stop.{Stop}
+use Rattle.walk.specs.declared.stop.Stop.the-variants as S
+use Rattle.walk.specs.declared.table.Leaf.{Leaf}
+use Rattle.walk.specs.declared.table.Root.{Root}
+use Rattle.walk.specs.declared.table.Root.the-variants.{Unusable, Usable}
 
 -- a program of an access
 abbrev pub Reading : Type 0 → Type 0
@@ -43,9 +43,9 @@ abbrev pub entryAddress : Geometry → ℕ → ℕ → ℕ → ℕ → ℕ
 entryAddress g n j table input = table + 8 * field input (shift g n) j
 
 -- a word goes on, an absent descriptor stops
-unfoldable pub fetched : {A : Type 0} → Stop → (ℕ → Reading A) → Fetch → Reading A
-fetched e k Absent = stop e
-fetched e k (Word x) = k x
+unfoldable pub ifPresent : {A : Type 0} → Stop → (ℕ → Reading A) → Read → Reading A
+ifPresent e k Absent = stop e
+ifPresent e k (Word x) = k x
 
 -- stage 1's tables impose on what lies below them
 abbrev pub inheritAt : Stage → Inherited → ℕ → Inherited
@@ -67,7 +67,7 @@ walk place g s input zero j table h = stop (fault Translation s 3)
 walk place g s input (suc n) j table h =
     bind (place (entryAddress g n j table input))
     (λ at. ask (record { reader = readerOf s; address = at })
-    (fetched (absent at s (3 - n))
+    (ifPresent (absent at s (3 - n))
     (λ x. follow g s n x h (λ t i. walk place g s input n (g .stride) t i) (decode g n x))))
 
 -- the walk from a root

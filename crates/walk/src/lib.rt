@@ -1,3 +1,5 @@
-// What the table walk of one stage and both stages of an access take and give: types here, definitions in specs/, laws in proofs/.
-pub mod answer;
-pub mod stage;
+// The table walk of one stage, and stage 2's translation: what they take and give, and their code.
+pub mod check;
+pub mod stage2;
+pub mod stop;
+pub mod table;

@@ -9,8 +9,8 @@ use lib.IntN.{pos}
 use lib.Signed.{ltZ}
 use Rattle.bits.specs.Bits.{pick}
 use Rattle.descriptor.specs.declared.entry.FaultKind.the-variants.{Translation}
-use Rattle.walk.specs.declared.stage.Root.{Root}
-use Rattle.walk.specs.declared.stage.Root.the-variants.{Unusable}
+use Rattle.walk.specs.declared.table.Root.{Root}
+use Rattle.walk.specs.declared.table.Root.the-variants.{Unusable}
 use Rattle.registers.specs.Vtcr
 use Rattle.level.specs.Level.{fourK, inputSize, outputSize, start2, sizeCheck, levelsBelow}
 use Rattle.regime.specs.Roots.{rootOf, root2}

@@ -2,7 +2,7 @@
 use borrow.Author.Needs.{needs}
 use mathlib.Core.Path.{sym, ap, _∙_}
 use Rattle.bits.specs.Bits.{pick}
-use Rattle.walk.specs.declared.stage.Root.the-variants.{Usable}
+use Rattle.walk.specs.declared.table.Root.the-variants.{Usable}
 use Rattle.regime.specs.Roots.{rootOf}
 use Rattle.regime.proofs.root_unless.Statement.{statement}
 use Rattle.regime.proofs.root_unless.Tie as tie

@@ -1,0 +1,19 @@
+-- Demand 3, what an answer depends on (01, Demand 3 in full). Proved in proofs/Framing.antt.
+-- Assumes nothing.
+use mathlib.Core.Path.{_≡_}
+use mathlib.Core.List.{List}
+use Prim.Native.Nat.{ℕ}
+use lib.ListN.{length}
+use Rattle.reads.specs.Program.{All}
+use Rattle.access.specs.declared.Access.{Access}
+use Rattle.capture.specs.Capture.{SameBytes}
+use Rattle.registers.specs.declared.El1.{El1}
+use Rattle.registers.specs.declared.El2.{El2}
+use Rattle.answers.specs.Question.{ask}
+
+-- two captures of the same bounds, with the same bytes in each descriptor that the question reads from the first:
+-- the same answer, count, log, reads and ends
+pub record Framing (base : ℕ) (bytes bytes′ : List ℕ) (r : El2) (g : El1) (a : Access) (log : List ℕ) : Type 0 where
+  pub framed : length bytes ≡ length bytes′ →
+      All (λ q. SameBytes base bytes bytes′ (q .address) 8) (ask base bytes r g a log .reads) →
+      ask base bytes′ r g a log ≡ ask base bytes r g a log

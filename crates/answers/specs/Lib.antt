@@ -1,0 +1,5 @@
+pub mod Answers
+pub mod Refusals
+pub mod Question
+pub mod Counts
+pub mod Framing

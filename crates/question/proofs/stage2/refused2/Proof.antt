@@ -1,8 +1,0 @@
--- `refused2` meets its contract, by those of what it calls.
--- Assumes nothing.
-use borrow.Author.Needs.{needs}
-use Rattle.question.proofs.stage2.refused2.Statement.{statement}
-use Rattle.question.proofs.stage2.refused2.Tie as tie
-
-pub refused2-spec : {M : Type 1} → statement M
-refused2-spec = tie.close (tie.spec (λ c κs. search needs) (λ c. simp (c .before .is-fetch .ensures)))

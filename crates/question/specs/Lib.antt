@@ -1,6 +1,0 @@
-pub mod Refusals
-pub mod Question
-pub mod Counts
-pub mod Framing
-pub mod Ran
-pub mod Entered

@@ -1,0 +1,4 @@
+pub mod Laws
+pub mod Holds
+pub mod Tally
+pub mod Ran

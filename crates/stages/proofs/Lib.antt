@@ -1,0 +1,4 @@
+pub mod Tops
+pub mod Calls
+pub mod Counts
+pub mod Accesses

@@ -1,0 +1,3 @@
+pub mod Stage1
+pub mod Stages
+pub mod Calls

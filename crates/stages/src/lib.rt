@@ -1,0 +1,3 @@
+// Both stages of an access: stage 1 over stage 2, its checks, and the access.
+pub mod both;
+pub mod stage1;
