@@ -72,7 +72,7 @@ pub struct Place {
 }
 
 // Where a descriptor of stage 1 lies: with stage 2 on, its address is translated first.
-pub fn place1(
+fn place1(
     bytes: &[u8],
     base: u64,
     s: Stage2,
@@ -308,7 +308,7 @@ fn root_in(s: Stage1, a: u64, range: VaRange, upper: bool) -> Root
 }
 
 // The root for an address.
-pub fn root1_at(s: Stage1, a: u64) -> Root
+pub(crate) fn root1_at(s: Stage1, a: u64) -> Root
     ensures { λ r. ⌜ r ≡ Definitions.root1At s a ⌝ }
 {
     let lower = s.lower;
@@ -321,7 +321,7 @@ pub fn root1_at(s: Stage1, a: u64) -> Root
 }
 
 // What stage 1 makes of an access, from the root for its address.
-pub fn translate1(
+pub(crate) fn translate1(
     bytes: &[u8],
     base: u64,
     s1: Stage1,

@@ -45,7 +45,7 @@ pub struct Walk {
 }
 
 // From a table down; each read's address goes into the log from count on.
-pub fn walk2(
+fn walk2(
     bytes: &[u8],
     base: u64,
     t: Table,
