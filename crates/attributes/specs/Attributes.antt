@@ -45,7 +45,7 @@ isNonCacheable NonCacheable = true
 isNonCacheable WriteThrough = false
 isNonCacheable WriteBack = false
 
--- Device, and Normal Non-cacheable both ways, are outer shareable (01, Attributes, combining)
+-- Device, and Normal Non-cacheable both ways, are outer shareable (01, Attributes, combining; MemAttrDefaults)
 unfoldable pub reported : MemoryType → Shareability → Attributes
 reported (Device d) s = record { memory = Device d; shareability = OuterShareable }
 reported (Normal o i) s =
@@ -70,11 +70,11 @@ mairByte uncached sh byte =
     (pick (eqb (byte % 16) 0) Unsettled
     (normal uncached sh (mairNibble (byte / 16)) (mairNibble (byte % 16))))
 
--- stage 1's descriptor x: bits 4:2 pick the byte, bits 9:8 are SH
+-- stage 1's descriptor x: bits 4:2 pick the byte, bits 9:8 are SH (01, Attributes, stage 1; AArch64.S1AttrDecode)
 abbrev pub stage1Attributes : (mair : ℕ) (uncached : Bool) (x : ℕ) → Decoded
 stage1Attributes mair uncached x = mairByte uncached (field x 8 2) (field mair (8 * field x 2 3) 8)
 
--- stage 2's codes in bits 5:4 (outer) and 3:2 (inner) (01, Attributes, stage 2)
+-- stage 2's codes in bits 5:4 (outer) and 3:2 (inner) (01, Attributes, stage 2; S2AttrDecode)
 unfoldable pub stage2Codes : (uncached : Bool) (sh outer inner : ℕ) → Decoded
 stage2Codes uncached sh outer inner =
     pick (eqb outer 0) (device (deviceOf inner))
@@ -86,7 +86,7 @@ stage2Attributes uncached x = stage2Codes uncached (field x 8 2) (field x 4 2) (
 
 -- ---- stage 1 off
 
--- by HCR_EL2.DC, by whether the access is a fetch, and by SCTLR_EL1.I (01, Attributes, stage 1 off)
+-- by HCR_EL2.DC, by whether the access is a fetch, and by SCTLR_EL1.I (01, Attributes, stage 1 off; AArch64.TranslateAddressS1Off)
 unfoldable pub stage1OffAttributes : (dc fetch i : Bool) → Attributes
 stage1OffAttributes dc fetch i =
     pick dc (reported (Normal WriteBack WriteBack) NonShareable)
@@ -94,7 +94,7 @@ stage1OffAttributes dc fetch i =
     (pick i (reported (Normal WriteThrough WriteThrough) OuterShareable) (reported (Normal NonCacheable NonCacheable) OuterShareable))
     (reported (Device NGnRnE) OuterShareable))
 
--- ---- combining (01, Attributes, combining): of two the one with the lower rank wins, and Device memory over Normal
+-- ---- combining (01, Attributes, combining; CombineS1S2Desc): of two the one with the lower rank wins, and Device memory over Normal
 
 unfoldable pub deviceRank : DeviceType → ℕ
 deviceRank NGnRnE = 0

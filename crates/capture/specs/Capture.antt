@@ -20,7 +20,7 @@ little (b ∷ l) = b + 256 * little l
 unfoldable pub within : (base length address : ℕ) → Bool
 within base length a = leb base a && leb (a + 8) (base + length)
 
--- a word, or absent unless all eight bytes are there (01, Answer numbers, 6; mission, 2).
+-- a word, or absent unless all eight bytes are there (01, Answer numbers, 6; README, demand 2).
 -- The bytes' length is an argument, so that nothing counts them at each read.
 unfoldable pub memory : (base length : ℕ) → List ℕ → Request → Read
 memory base length bytes q =

@@ -7,7 +7,7 @@ use Rattle.access.specs.Access.{isRead, isWrite, atEl0}
 use Rattle.access.specs.declared.Access.{Access}
 use Rattle.descriptor.specs.declared.entry.Inherited.{Inherited}
 
--- ---- stage 1, with what the tables impose. AP is bits 7:6.
+-- ---- stage 1, with what the tables impose. AP is bits 7:6. AArch64.CheckPermission.
 
 -- EL1 may write: bit 7 clear
 abbrev pub el1Writes : Inherited → ℕ → Bool
@@ -33,7 +33,7 @@ stage1Permits wxn a h x =
     (pick (isRead a) (el0Reads h x) (pick (isWrite a) (el0Writes h x) (el0Fetches wxn h x)))
     (pick (isRead a) true (pick (isWrite a) (el1Writes h x) (el1Fetches wxn h x)))
 
--- ---- stage 2: bit 6 reads, bit 7 writes, a fetch needs bit 6 and XN clear. An on-walk access is a read.
+-- ---- stage 2: bit 6 reads, bit 7 writes, a fetch needs bit 6 and XN clear. An on-walk access is a read. AArch64.CheckS2Permission.
 unfoldable pub stage2Permits : (onWalk : Bool) → Access → ℕ → Bool
 stage2Permits onWalk a x =
     pick (onWalk || isRead a) (bit x 6)

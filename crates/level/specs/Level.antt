@@ -14,19 +14,19 @@ outputSize code = pick (eqb code 0) 32 (pick (eqb code 1) 36 (pick (eqb code 2) 
 abbrev pub fourK : (input output : ℕ) → Geometry
 fourK input output = record { grainsize = 12; stride = 9; inputsize = input; outputsize = output; block = 2; contiguous = 34 }
 
--- the input size of a size field
+-- the input size of a size field (01, Walk, input size)
 abbrev pub inputSize : ℕ → ℕ
 inputSize tnsz = 64 - tnsz
 
--- stage 1's start level (01, Walk): 4 less the strides that the input bits above the granule take, rounded up
+-- stage 1's start level (01, Walk, start level): 4 less the strides that the input bits above the granule take, rounded up
 unfoldable pub start1 : Geometry → ℤ
 start1 g = pos 4 -ℤ pos ((g .inputsize - g .grainsize + (g .stride - 1)) / g .stride)
 
--- stage 2's start level, -1 for an SL0 of 3 (01, Walk)
+-- stage 2's start level, -1 for an SL0 of 3 (01, Walk, start level)
 unfoldable pub start2 : (sl0 : ℕ) → ℤ
 start2 sl0 = pos 2 -ℤ pos sl0
 
--- the size check (01, Walk): the bits of a root's index, below 1 where the start level is too high for the size
+-- the size check (01, Walk, start level): the bits of a root's index, below 1 where the start level is too high for the size
 unfoldable pub sizeCheck : Geometry → (start : ℤ) → ℤ
 sizeCheck g start = pos (g .inputsize) -ℤ ((pos 3 -ℤ start) *ℤ pos (g .stride) +ℤ pos (g .grainsize))
 

@@ -27,7 +27,7 @@ use Rattle.registers.specs.declared.El2.{El2}
 -- ---- roots
 
 -- the root table at a base register, with n levels below it.
--- 3 + the index bits is 01's b: a base is aligned to its table's size, however many entries it has.
+-- 3 + the index bits is b (01, Walk, base): a base is aligned to its table's size, however many entries it has.
 abbrev pub tableOf : Geometry → (n register : ℕ) → Table
 tableOf g n register =
     record { geometry = g; levels = suc n; bits = g .inputsize - shift g n; base = upper register (3 + (g .inputsize - shift g n)) }
@@ -36,13 +36,13 @@ tableOf g n register =
 unfoldable pub rootOf : Geometry → (n register : ℕ) → Root
 rootOf g n register = pick (beyond register (g .outputsize)) (Unusable AddressSize 0) (Usable (tableOf g n register))
 
--- a VA range of stage 1, by its size field, EPD and TTBR
+-- a VA range of stage 1, by its size field, EPD and TTBR (01, Walk, input size)
 abbrev pub rangeOf : (ips tnsz : ℕ) (epd : Bool) (ttbr : ℕ) → VaRange
 rangeOf ips tnsz epd ttbr =
     let g = fourK (inputSize tnsz) (outputSize ips) in
     record { inputsize = inputSize tnsz; root = pick epd (Unusable Translation 0) (rootOf g (levelsBelow (start1 g)) ttbr) }
 
--- stage 2 (01, Walk) starts at no level below 0, at level 0 only where PAMax is over 42, and with 1 to 13 index bits
+-- stage 2 (01, Walk, start level) starts at no level below 0, at level 0 only where PAMax is over 42, and with 1 to 13 index bits
 unfoldable pub root2 : El2 → Root
 root2 r =
     let g = fourK (inputSize (Vtcr.t0sz (r .vtcr))) (outputSize (Vtcr.ps (r .vtcr))) in

@@ -1,4 +1,4 @@
--- Stage 1 of an access, from what registers say of both stages (01, Walk, Attributes, Checks; the order is that of 000).
+-- Stage 1 of an access, from what registers say of both stages (01, Walk, Attributes, Checks; the order is Arm's).
 -- Arm's pseudocode has it as AArch64.FirstStageTranslate.
 -- Assumes nothing.
 use mathlib.Core.Bool.{Bool, true, not, _&&_, _||_}
@@ -56,7 +56,7 @@ root1At s a = pick (inRange s a) (vaRange s a .root) (Unusable F.Translation 0)
 abbrev pub uncached1 : Stage1 → Access → Bool
 uncached1 s a = not (pick (isFetch a) (s .i) (s .c))
 
--- permission, then a fetch from Device memory
+-- permission, then a fetch from Device memory (01, Checks; AArch64.InstructionDevice)
 abbrev pub denied1 : Stage1 → Access → (device : Bool) → Leaf → Bool
 denied1 s a device l = not (stage1Permits (s .wxn) a (l .inherited) (l .word)) || (device && isFetch a)
 

@@ -1,4 +1,4 @@
--- Both stages of an access (01, Walk, Attributes, Checks; the order is that of 000).
+-- Both stages of an access (01, Walk, Attributes, Checks; the order is Arm's).
 -- Arm's pseudocode has it as AArch64.FullTranslate.
 -- Assumes nothing.
 use mathlib.Core.Bool.{false}

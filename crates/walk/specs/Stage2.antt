@@ -1,4 +1,4 @@
--- Stage 2's translation of an IPA, from what registers say of the stage (01, Walk, Attributes, Checks; the order is that of 000).
+-- Stage 2's translation of an IPA, from what registers say of the stage (01, Walk, Attributes, Checks; the order is Arm's).
 -- Arm's pseudocode has it as AArch64.SecondStageTranslate.
 -- Assumes nothing.
 use mathlib.Core.Bool.{Bool, not, _&&_, _||_}
@@ -28,7 +28,7 @@ root2At s ipa = pick (beyond ipa (s .inputsize)) (Unusable Translation 0) (s .ro
 abbrev pub uncached2 : Stage2 → Access → (onWalk : Bool) → Bool
 uncached2 s a onWalk = pick (isFetch a && not onWalk) (s .id) (s .cd)
 
--- Device memory is no place to fetch from, nor with PTW to walk in: both are permission faults (01, Checks)
+-- Device memory is no place to fetch from, nor with PTW to walk in: both are permission faults (01, Checks; AArch64.InstructionDevice for the first)
 abbrev pub refused2 : Stage2 → Access → (onWalk device : Bool) → Bool
 refused2 s a onWalk device = device && (isFetch a || (onWalk && s .ptw))
 
