@@ -106,8 +106,8 @@ impl From<Answer> for Words {
                     Cause::Unsettled => (7, 0, stop.level),
                 };
                 let place = stop.place;
-                // The IPA is there for every stop of stage 2, also for 6 and 7, for which document 01 does not ask it.
-                let (stage, onwalk, ipa) = (place.stage, place.on_walk as u64, place.ipa);
+                // Of stops at stage 2, faults alone carry the IPA.
+                let (stage, onwalk, ipa) = (place.stage, place.on_walk as u64, if number <= 5 { place.ipa } else { 0 });
                 Words { number, address, level, stage, onwalk, ipa, reads: reads as u64, ..none }
             }
             Answer::Refused(Refusal::ShortLog) => Words { number: 10, ..none },
