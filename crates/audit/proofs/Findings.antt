@@ -98,7 +98,7 @@ module _ (m : Request → Read) (grants tables : List (ℕ × ℕ)) (root : Tabl
     says-as n at x DescriptorType.Table h e = low h (passed _ _ _ e)
     says-as n at x DescriptorType.Leaf h e = record { frames = omega arith; range = passed _ _ _ e }
 
-    -- each entry leads to a listed table one level on, or maps a granted range, or is void
+    -- each entry leads to a listed table one level on, or maps a granted range, or is invalid
     pub entry-says : (n j table i x : ℕ) → T (suc n) j table → i < 2 ^ j → m (stage2Read (table + 8 * i)) ≡ Word x → Says T (GrantedLeaf grants) g n x (descriptorType g n x)
     unfolding auditTable examine
     entry-says n j table i x t h e =

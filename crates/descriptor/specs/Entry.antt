@@ -17,7 +17,7 @@ use Rattle.descriptor.specs.declared.entry.Inherited.{Inherited}
 abbrev pub shift : Geometry → ℕ → ℕ
 shift g n = g .grainsize + g .stride * n
 
--- what an entry is, by its bits 1:0 and its level. What is void here is what the audit passes over.
+-- the type of the descriptor x of an entry, by its bits 1:0 and its level. What is invalid here is what the audit passes over.
 -- (01, Walk, descriptors: bit 0; type 11; type 01 at level 3 and level 0. 01, The audit.)
 unfoldable pub descriptorType : Geometry → ℕ → ℕ → DescriptorType
 descriptorType g n x =

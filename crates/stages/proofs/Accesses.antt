@@ -163,7 +163,7 @@ module _ (m : Request → Read) (P : Request → Type 0) (S : Stop → Type 0)
           (λ _. holds-bind m _ _ _ (holds-translate2 true at) (λ o h. on-done (w .lies at (o .address) e h)))
           (λ off. absurd (false≢true (sym off ∙ on)))
 
-      one-says : (g : Geometry) → ((x : ℕ) → upper x (g .grainsize) % 8 ≡ 0) → (n x : ℕ) (descriptorType : DescriptorType) → Says (λ k j table. table % 8 ≡ 0) (λ x t. Unit {0}) g n x descriptorType
+      one-says : (g : Geometry) → ((x : ℕ) → upper x (g .grainsize) % 8 ≡ 0) → (n x : ℕ) (d : DescriptorType) → Says (λ k j table. table % 8 ≡ 0) (λ x t. Unit {0}) g n x d
       one-says g even n x DescriptorType.Invalid = tt
       one-says g even n x DescriptorType.Table = even x
       one-says g even n x DescriptorType.Leaf = tt

@@ -105,7 +105,7 @@ module _ (m : Request → Read) (place : ℕ → Reading ℕ) (g : Geometry) (s 
 
 -- ---- what else an entered entry says
 
-next-table : (g : Geometry) (n x t : ℕ) (descriptorType : DescriptorType) → decodeAs g n x descriptorType ≡ E.Next t → t ≡ upper x (g .grainsize)
+next-table : (g : Geometry) (n x t : ℕ) (d : DescriptorType) → decodeAs g n x d ≡ E.Next t → t ≡ upper x (g .grainsize)
 unfolding decodeAs pick
 next-table g n x t DescriptorType.Invalid e = absurd (let z : _≡_ {A = ℕ} 0 1 = cc in omega arith)
 next-table g n x t DescriptorType.Table e = by-pick (λ d. d ≡ E.Next t → t ≡ upper x (g .grainsize)) (beyond x (g .outputsize)) _ _ (λ _ q. absurd (let z : _≡_ {A = ℕ} 0 1 = cc in omega arith)) (λ _ q. cc) e

@@ -21,7 +21,7 @@ use Rattle.walk.specs.declared.stop.Stop.{Stop}
 use Rattle.walk.specs.declared.table.Leaf.{Leaf}
 use Rattle.walk.specs.Walk.{Reading, readerOf, fault, absent, unsettled, ifPresent, follow, walk}
 
--- what an entry x with n levels below it says, by its shape: the table it leads to is one of T, the leaf it is, with its shift, one of L
+-- what an entry x with n levels below it says, by its type: the table it leads to is one of T, the leaf it is, with its shift, one of L
 abbrev pub Says : (T : ℕ → ℕ → ℕ → Type 0) (L : ℕ → ℕ → Type 0) → Geometry → (n x : ℕ) → DescriptorType → Type 0
 Says T L g n x DescriptorType.Invalid = Unit {0}
 Says T L g n x DescriptorType.Table = T n (g .stride) (upper x (g .grainsize))
@@ -39,7 +39,7 @@ module _ (m : Request → Read) (P : Request → Type 0) (S : Stop → Type 0)
   H = Holds m P S IsLeaf
 
   holds-follow : (g : Geometry) (n x : ℕ) (h : Inherited) (deeper : ℕ → Inherited → Reading Leaf) →
-      ((t : ℕ) (i : Inherited) → T n (g .stride) t → H (deeper t i)) → (descriptorType : DescriptorType) → Says T L g n x descriptorType → H (follow g s n x h deeper (decodeAs g n x descriptorType))
+      ((t : ℕ) (i : Inherited) → T n (g .stride) t → H (deeper t i)) → (d : DescriptorType) → Says T L g n x d → H (follow g s n x h deeper (decodeAs g n x d))
   unfolding follow decodeAs
   holds-follow g n x h deeper k DescriptorType.Invalid says = on-stop (faults _ _)
   holds-follow g n x h deeper k DescriptorType.Table says =
