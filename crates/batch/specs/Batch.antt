@@ -1,14 +1,16 @@
 -- A batch: one kind, EL and size, many addresses (01, What one question holds).
 -- Assumes nothing.
-use mathlib.Core.Bool.{Bool, not, _&&_, _||_}
+use mathlib.Core.Bool.{Bool, not, _||_}
 use mathlib.Core.List.{List, [], _∷_, map}
-use Prim.Native.Nat.{ℕ, _+_}
-use lib.Dec.{ltb, leb, eqb}
+use Prim.Native.Nat.{ℕ}
+use lib.Dec.{ltb, eqb}
 use lib.ListN.{length}
-use Rattle.bits.specs.Bits.{pick}
 use Rattle.reads.specs.Program.{Request}
 use Rattle.reads.specs.declared.Read.{Read}
+use Rattle.access.specs.declared.Access.{Access}
 use Rattle.capture.specs.Capture.{captured}
+use Rattle.walk.specs.declared.stage2.Stage2.{Stage2}
+use Rattle.stages.specs.declared.stage1.Stage1.{Stage1}
 use Rattle.stages.specs.Stages.{access}
 use Rattle.registers.specs.declared.El1.{El1}
 use Rattle.registers.specs.declared.El2.{El2}
@@ -19,7 +21,7 @@ use Rattle.answers.specs.Question.{told}
 use Rattle.answers.specs.declared.Refusal.the-variants.{BatchLists}
 use Rattle.answers.specs.declared.Answer.{Answer}
 use Rattle.answers.specs.declared.Answer.the-variants as A
-use Rattle.batch.specs.declared.Ledger.{Ledger}
+use Rattle.ledger.specs.Ledger.{ledger}
 use Rattle.batch.specs.declared.BatchAnswer.{BatchAnswer}
 use Rattle.batch.specs.declared.BatchAnswer.the-variants.{Done, Refused}
 
@@ -31,10 +33,19 @@ pub record Shared : Type 0 where
   pub el : ℕ
   pub size : ℕ
 
--- one address's answer; a batch has a working log of its own
-unfoldable pub answerTo : (Request → Read) → Shared → (address : ℕ) → Answer
-answerTo m s a =
-    told m [] (access (stage1 (s .el2) (s .el1)) (stage2 (s .el2)) (record { address = a; kind = s .kind; el = s .el; size = s .size })) .answer
+abbrev pub sharing : El2 → El1 → (kind el size : ℕ) → Shared
+sharing r g kind el size = record { el2 = r; el1 = g; kind = kind; el = el; size = size }
+
+-- the access to one address
+abbrev pub accessTo : Shared → (address : ℕ) → Access
+accessTo s a = record { address = a; kind = s .kind; el = s .el; size = s .size }
+
+-- the answer of an access. A batch has a working log of its own, and no answer depends on what a log holds.
+unfoldable pub answerOf : (Request → Read) → Stage1 → Stage2 → Access → Answer
+answerOf m s1 s2 a = told m [] (access s1 s2 a) .answer
+
+abbrev pub answerTo : (Request → Read) → Shared → (address : ℕ) → Answer
+answerTo m s a = answerOf m (stage1 (s .el2) (s .el1)) (stage2 (s .el2)) (accessTo s a)
 
 -- 0 for an address that is not translated
 unfoldable pub outputOf : Answer → ℕ
@@ -44,22 +55,6 @@ outputOf (A.Misaligned s n) = 0
 outputOf (A.Absent m n) = 0
 outputOf (A.Unsettled o n) = 0
 outputOf (A.Refused r) = 0
-
--- how many of some numbers pass a test
-unfoldable pub count : (ℕ → Bool) → List ℕ → ℕ
-count f [] = 0
-count f (n ∷ l) = pick (f n) 1 0 + count f l
-
--- the figures of a list of answer numbers
-unfoldable pub ledger : List ℕ → Ledger
-ledger l =
-    record {
-      asked = length l;
-      translated = count (λ n. eqb n 0) l;
-      faulted = count (λ n. leb 1 n && leb n 5) l;
-      absent = count (λ n. eqb n 6) l;
-      unsettled = count (λ n. eqb n 7) l;
-    }
 
 -- ---- the batch's own answer: its number and its values. The table of answers has no number for a batch that ran; 0 is ours.
 

@@ -1,2 +1,3 @@
 pub mod Batch
-pub mod Ledger
+pub mod Promises
+pub mod Calls

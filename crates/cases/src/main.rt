@@ -119,6 +119,32 @@ fn ask_short() {
     print::text(b"\n");
 }
 
+// The ledger of two addresses, with the capture as it is or cut short.
+fn batch_first(name: &[u8], length: usize) {
+    let mut bytes = [0u8; 0x8000];
+    image::fill(&mut bytes);
+    let addresses = [0x1008u64, 0x2000];
+    let mut outputs = [0u64; 2];
+    let mut numbers = [0u64; 2];
+    if length <= 0x8000 {
+        print::text(name);
+        let answer = batch::run(
+            &bytes[..length],
+            BASE,
+            el2(VTCR),
+            el1(5, TCR),
+            0,
+            0,
+            8,
+            &addresses,
+            &mut outputs,
+            &mut numbers,
+        );
+        print::batch(answer);
+        print::text(b"\n");
+    }
+}
+
 fn a_to_f() {
     let r = el2(VTCR);
     let g = el1(5, TCR);
@@ -163,6 +189,8 @@ fn beyond() {
     ask_read_only();
     ask_concatenated();
     ask_short();
+    batch_first(b"batch of 0x1008 and 0x2000: ", 0x8000);
+    batch_first(b"the same, capture cut to 0x4000 bytes: ", 0x4000);
 }
 
 fn main() {

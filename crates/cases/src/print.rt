@@ -6,7 +6,11 @@ use attributes::Cacheability;
 use attributes::DeviceType;
 use attributes::MemoryType;
 use attributes::Shareability;
+use batch::BatchAnswer;
 use descriptor::entry::FaultKind;
+use ledger::Ledger;
+use ledger::line;
+use ledger::line::LineAnswer;
 use libc::STDOUT_FILENO;
 use stages::both::Translation;
 use walk::stop::Fault;
@@ -183,5 +187,24 @@ pub(crate) fn log(words: &[u64]) {
         }
         address(words[i]);
         i += 1;
+    }
+}
+
+fn ledger_line(l: Ledger) {
+    let mut buffer = [0u8; 160];
+    match line::write_line(l, &mut buffer) {
+        LineAnswer::Written(n) => {
+            if n <= 160 {
+                text(&buffer[..n]);
+            }
+        }
+        LineAnswer::Short => text(b"no room for the line"),
+    }
+}
+
+pub(crate) fn batch(a: BatchAnswer) {
+    match a {
+        BatchAnswer::Done(l) => ledger_line(l),
+        BatchAnswer::Refused(r) => refused(r),
     }
 }

@@ -1,10 +1,11 @@
 -- For the contracts of code: the words of answers of one sort. proofs/Sorts.antt ties them to the values that those answers carry.
 -- Assumes nothing.
 use Prim.Native.Nat.{ℕ}
+use lib.ListN.{getD}
+use Rattle.answers.specs.Answers.{itemOf}
 use Rattle.walk.specs.declared.stop.Stage.{Stage}
 use Rattle.walk.specs.declared.stop.Stage.the-variants.{One, Two}
 use Rattle.answers.specs.declared.Refusal.{Refusal}
-use Rattle.answers.specs.declared.Refusal.the-variants.{ShortLog, HighCapture, Settings, Unlisted, BatchLists, AuditLists, NoRoot}
 use Rattle.exported.specs.declared.Words.{Words}
 use Rattle.exported.specs.Words.{flag}
 
@@ -17,13 +18,7 @@ ipaWord One = 0
 ipaWord (Two i w) = i
 
 abbrev pub itemWord : Refusal → ℕ
-itemWord ShortLog = 0
-itemWord HighCapture = 0
-itemWord (Settings item) = item
-itemWord Unlisted = 0
-itemWord BatchLists = 0
-itemWord AuditLists = 0
-itemWord NoRoot = 0
+itemWord r = getD (itemOf r) 0 0
 
 abbrev pub stopped : (number address stage level onwalk ipa reads : ℕ) → Words
 stopped number address stage level onwalk ipa reads =

@@ -1,9 +1,10 @@
--- Answers in numbers, and the question on numbers.
+-- Answers in numbers, and the calls on numbers.
 -- Assumes nothing.
 use mathlib.Core.Bool.{Bool, true, false}
 use mathlib.Core.List.{List, [], _∷_}
 use Prim.Native.Nat.{ℕ, _+_, _*_}
 use lib.Dec.{eqb}
+use lib.ListN.{getD}
 use Rattle.bits.specs.Bits.{pick}
 use Rattle.attributes.specs.declared.DeviceType.{DeviceType}
 use Rattle.attributes.specs.declared.DeviceType.the-variants.{NGnRnE, NGnRE, NGRE, GRE}
@@ -13,10 +14,18 @@ use Rattle.attributes.specs.declared.MemoryType.{MemoryType}
 use Rattle.attributes.specs.declared.MemoryType.the-variants.{Device, Normal}
 use Rattle.attributes.specs.declared.Shareability.{Shareability}
 use Rattle.attributes.specs.declared.Shareability.the-variants.{NonShareable, OuterShareable, InnerShareable}
-use Rattle.answers.specs.Answers.{Value, address, attributes, stage, level, level1, level2, on-walk, ipa, reads, item, number, carries}
+use Rattle.answers.specs.Answers.{Value, address, attributes, stage, level, level1, level2, on-walk, ipa, reads, item, itemOf, number, carries}
 use Rattle.answers.specs.Question.{Told, ask}
 use Rattle.answers.specs.declared.Answer.{Answer}
+use Rattle.registers.specs.declared.El1.{El1}
+use Rattle.registers.specs.declared.El2.{El2}
+use Rattle.ledger.specs.declared.line.LineAnswer.{LineAnswer}
+use Rattle.ledger.specs.declared.line.LineAnswer.the-variants.{Written, Short}
+use Rattle.batch.specs.Batch.{sharing, batchNumber, BatchTold, batch}
+use Rattle.batch.specs.declared.BatchAnswer.{BatchAnswer}
+use Rattle.batch.specs.declared.BatchAnswer.the-variants.{Done, Refused}
 use Rattle.exported.specs.declared.Words.{Words}
+use Rattle.exported.specs.declared.BatchWords.{BatchWords}
 
 -- ---- codes of this interface
 
@@ -91,13 +100,41 @@ worded n l =
 abbrev pub words : Answer → Words
 words a = worded (number a) (carries a)
 
--- ---- the question
+-- ---- a batch's answer: its number, and its ledger's figures or a settings refusal's item
 
--- PAMax, the EL2 registers, the guest's and the access, each a number
+unfoldable pub batchWords : BatchAnswer → BatchWords
+batchWords (Done l) =
+    record {
+      number = batchNumber (Done l);
+      item = 0;
+      asked = l .asked;
+      translated = l .translated;
+      faulted = l .faulted;
+      absent = l .absent;
+      unsettled = l .unsettled;
+    }
+batchWords (Refused r) =
+    record { number = batchNumber (Refused r); item = getD (itemOf r) 0 0; asked = 0; translated = 0; faulted = 0; absent = 0; unsettled = 0 }
+
+-- the bytes that a line took, or 0 where the buffer was too short for it
+abbrev pub lineWord : LineAnswer → ℕ
+lineWord (Written n) = n
+lineWord Short = 0
+
+-- ---- the calls, with PAMax and each register a number
+
+abbrev pub el2 : (pamax hcr vtcr vttbr sctlr : ℕ) → El2
+el2 pamax hcr vtcr vttbr sctlr = record { pamax = pamax; hcr = record { 0 = hcr }; vtcr = record { 0 = vtcr }; vttbr = vttbr; sctlr = record { 0 = sctlr } }
+
+abbrev pub el1 : (sctlr tcr ttbr0 ttbr1 mair : ℕ) → El1
+el1 sctlr tcr ttbr0 ttbr1 mair = record { sctlr = record { 0 = sctlr }; tcr = record { 0 = tcr }; ttbr0 = ttbr0; ttbr1 = ttbr1; mair = mair }
+
+-- the question
 abbrev pub asked : (base : ℕ) (bytes : List ℕ) (pamax hcr vtcr vttbr sctlr2 sctlr1 tcr ttbr0 ttbr1 mair address kind el size : ℕ) (log : List ℕ) → Told
 asked base bytes pamax hcr vtcr vttbr sctlr2 sctlr1 tcr ttbr0 ttbr1 mair at kind el size log =
-    ask base bytes
-    (record { pamax = pamax; hcr = record { 0 = hcr }; vtcr = record { 0 = vtcr }; vttbr = vttbr; sctlr = record { 0 = sctlr2 } })
-    (record { sctlr = record { 0 = sctlr1 }; tcr = record { 0 = tcr }; ttbr0 = ttbr0; ttbr1 = ttbr1; mair = mair })
-    (record { address = at; kind = kind; el = el; size = size })
-    log
+    ask base bytes (el2 pamax hcr vtcr vttbr sctlr2) (el1 sctlr1 tcr ttbr0 ttbr1 mair) (record { address = at; kind = kind; el = el; size = size }) log
+
+-- the batch
+abbrev pub batched : (base : ℕ) (bytes : List ℕ) (pamax hcr vtcr vttbr sctlr2 sctlr1 tcr ttbr0 ttbr1 mair kind el size : ℕ) (addresses outputs numbers : List ℕ) → BatchTold
+batched base bytes pamax hcr vtcr vttbr sctlr2 sctlr1 tcr ttbr0 ttbr1 mair kind el size addresses outputs numbers =
+    batch base bytes (sharing (el2 pamax hcr vtcr vttbr sctlr2) (el1 sctlr1 tcr ttbr0 ttbr1 mair) kind el size) addresses outputs numbers

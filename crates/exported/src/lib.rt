@@ -1,4 +1,4 @@
-// The question as a call on numbers and byte slices, for programs in C and Rust.
+// The question, the batch and the ledger's line as calls on numbers and slices, for programs in C and Rust.
 use access::Access;
 use answers::Answer;
 use answers::Refusal;
@@ -6,6 +6,10 @@ use attributes::Cacheability;
 use attributes::DeviceType;
 use attributes::MemoryType;
 use attributes::Shareability;
+use batch::BatchAnswer;
+use ledger::Ledger;
+use ledger::line;
+use ledger::line::LineAnswer;
 use registers::El1;
 use registers::El2;
 use registers::hcr::Hcr;
@@ -18,6 +22,7 @@ ghost use mathlib.Core.Path.{_≡_};
 ghost use Prim.Native.Nat.{_≤_};
 ghost use Rattle.answers.specs.Answers.{stageNumber, carries};
 ghost use Rattle.answers.specs.declared.Answer.the-variants as Answers;
+ghost use Rattle.ledger.specs.Line.{lineInto};
 ghost use Rattle.exported.specs.Words as Numbers;
 ghost use Rattle.exported.specs.Parts as Parts;
 
@@ -249,6 +254,30 @@ fn in_words(a: Answer) -> Words
     }
 }
 
+fn el2(pamax: u64, hcr: u64, vtcr: u64, vttbr: u64, sctlr: u64) -> El2
+    ensures { λ r. ⌜ r ≡ Numbers.el2 pamax hcr vtcr vttbr sctlr ⌝ }
+{
+    El2 {
+        pamax,
+        hcr: Hcr(hcr),
+        vtcr: Vtcr(vtcr),
+        vttbr,
+        sctlr: Sctlr(sctlr),
+    }
+}
+
+fn el1(sctlr: u64, tcr: u64, ttbr0: u64, ttbr1: u64, mair: u64) -> El1
+    ensures { λ r. ⌜ r ≡ Numbers.el1 sctlr tcr ttbr0 ttbr1 mair ⌝ }
+{
+    El1 {
+        sctlr: Sctlr(sctlr),
+        tcr: Tcr(tcr),
+        ttbr0,
+        ttbr1,
+        mair,
+    }
+}
+
 // The question. A slice is a pointer and a length: of the capture's bytes, and of the log's words.
 #[no_mangle]
 pub extern "C" fn humpelkaas_translate(
@@ -273,20 +302,8 @@ pub extern "C" fn humpelkaas_translate(
     ensures answered { λ r. ⌜ r ≡ Numbers.words (Numbers.asked base (now (bytes .entry)) pamax hcr vtcr vttbr sctlr2 sctlr1 tcr ttbr0 ttbr1 mair address kind el size (now (log .entry)) .answer) ⌝ }
     ensures logged { λ r. ⌜ now (log .exit) ≡ Numbers.asked base (now (bytes .entry)) pamax hcr vtcr vttbr sctlr2 sctlr1 tcr ttbr0 ttbr1 mair address kind el size (now (log .entry)) .log ⌝ }
 {
-    let r = El2 {
-        pamax,
-        hcr: Hcr(hcr),
-        vtcr: Vtcr(vtcr),
-        vttbr,
-        sctlr: Sctlr(sctlr2),
-    };
-    let g = El1 {
-        sctlr: Sctlr(sctlr1),
-        tcr: Tcr(tcr),
-        ttbr0,
-        ttbr1,
-        mair,
-    };
+    let r = el2(pamax, hcr, vtcr, vttbr, sctlr2);
+    let g = el1(sctlr1, tcr, ttbr0, ttbr1, mair);
     let a = Access {
         address,
         kind,
@@ -294,4 +311,117 @@ pub extern "C" fn humpelkaas_translate(
         size,
     };
     in_words(question::translate(bytes, base, r, g, a, log))
+}
+
+// A batch's answer in numbers: its own, a settings refusal's item, and the figures of its ledger.
+#[repr(C)]
+pub struct BatchWords {
+    pub number: u64,
+    pub item: u64,
+    pub asked: u64,
+    pub translated: u64,
+    pub faulted: u64,
+    pub absent: u64,
+    pub unsettled: u64,
+}
+
+fn batch_in_words(a: BatchAnswer) -> BatchWords
+    ensures { λ w. ⌜ w ≡ Numbers.batchWords a ⌝ }
+{
+    let number = batch::number(a);
+    match a {
+        BatchAnswer::Done(l) => BatchWords {
+            number,
+            item: 0,
+            asked: l.asked,
+            translated: l.translated,
+            faulted: l.faulted,
+            absent: l.absent,
+            unsettled: l.unsettled,
+        },
+        BatchAnswer::Refused(why) => BatchWords {
+            number,
+            item: item_of(why),
+            asked: 0,
+            translated: 0,
+            faulted: 0,
+            absent: 0,
+            unsettled: 0,
+        },
+    }
+}
+
+// The batch. Both written lists are as long as the list of addresses, at most 4,096 words.
+#[no_mangle]
+pub extern "C" fn humpelkaas_batch(
+    bytes: &[u8],
+    base: u64,
+    pamax: u64,
+    hcr: u64,
+    vtcr: u64,
+    vttbr: u64,
+    sctlr2: u64,
+    sctlr1: u64,
+    tcr: u64,
+    ttbr0: u64,
+    ttbr1: u64,
+    mair: u64,
+    kind: u64,
+    el: u64,
+    size: u64,
+    addresses: &[u64],
+    outputs: &mut [u64],
+    numbers: &mut [u64],
+) -> BatchWords
+    ensures answered { λ w. ⌜ w ≡ Numbers.batchWords (Numbers.batched base (now (bytes .entry)) pamax hcr vtcr vttbr sctlr2 sctlr1 tcr ttbr0 ttbr1 mair kind el size (now (addresses .entry)) (now (outputs .entry)) (now (numbers .entry)) .answer) ⌝ }
+    ensures placed { λ w. ⌜ now (outputs .exit) ≡ Numbers.batched base (now (bytes .entry)) pamax hcr vtcr vttbr sctlr2 sctlr1 tcr ttbr0 ttbr1 mair kind el size (now (addresses .entry)) (now (outputs .entry)) (now (numbers .entry)) .outputs ⌝ }
+    ensures numbered { λ w. ⌜ now (numbers .exit) ≡ Numbers.batched base (now (bytes .entry)) pamax hcr vtcr vttbr sctlr2 sctlr1 tcr ttbr0 ttbr1 mair kind el size (now (addresses .entry)) (now (outputs .entry)) (now (numbers .entry)) .numbers ⌝ }
+{
+    let r = el2(pamax, hcr, vtcr, vttbr, sctlr2);
+    let g = el1(sctlr1, tcr, ttbr0, ttbr1, mair);
+    batch_in_words(batch::run(
+        bytes,
+        base,
+        r,
+        g,
+        kind,
+        el,
+        size,
+        addresses,
+        outputs,
+        numbers,
+    ))
+}
+
+// The bytes written, or 0 for a buffer that is too short: no line is empty.
+fn line_word(a: LineAnswer) -> u64
+    ensures { λ n. ⌜ n ≡ Numbers.lineWord a ⌝ }
+{
+    match a {
+        LineAnswer::Written(n) => n as u64,
+        LineAnswer::Short => 0,
+    }
+}
+
+// The ledger's line, over the first bytes of a buffer.
+#[no_mangle]
+pub extern "C" fn humpelkaas_ledger_line(
+    asked: u64,
+    translated: u64,
+    faulted: u64,
+    absent: u64,
+    unsettled: u64,
+    buffer: &mut [u8],
+) -> u64
+    ensures answered { λ n. ⌜ n ≡ Numbers.lineWord (lineInto (record { asked = asked; translated = translated; faulted = faulted; absent = absent; unsettled = unsettled }) (now (buffer .entry)) .answer) ⌝ }
+    ensures written { λ n. ⌜ now (buffer .exit) ≡ lineInto (record { asked = asked; translated = translated; faulted = faulted; absent = absent; unsettled = unsettled }) (now (buffer .entry)) .buffer ⌝ }
+{
+    let l = Ledger {
+        asked,
+        translated,
+        faulted,
+        absent,
+        unsettled,
+    };
+    line_word(line::write_line(l, buffer))
 }

@@ -18,11 +18,13 @@ use Rattle.registers.specs.declared.El2.{El2}
 use Rattle.settings.specs.Settings.{settings}
 use Rattle.level.specs.Level.{fourK, start2, sizeCheck}
 use Rattle.answers.specs.Question.{askOver}
-use Rattle.batch.specs.Batch.{Shared, batchOver}
-use Rattle.batch.specs.Ledger.{ascii, line}
-use Rattle.batch.specs.declared.Ledger.{Ledger}
+use Rattle.batch.specs.Batch.{Shared, unequal, batchOver}
+use Rattle.ledger.specs.Ledger.{ledger, ascii, line}
+use Rattle.ledger.specs.Line.{lineInto}
+use Rattle.ledger.specs.declared.Ledger.{Ledger}
+use Rattle.ledger.specs.declared.line.LineAnswer.the-variants.{Written, Short}
 use Rattle.batch.specs.declared.BatchAnswer.the-variants as Batch
-use Rattle.answers.specs.declared.Refusal.the-variants.{BatchLists}
+use Rattle.answers.specs.declared.Refusal.the-variants.{BatchLists, Settings}
 use Rattle.audit.specs.declared.FindingKind.the-variants.{NotCaptured, TouchesGrant, UnlistedTable, OutsideGrants}
 use Rattle.audit.specs.declared.AuditAnswer.the-variants.{Clean, Found}
 use Rattle.facts.specs.Open.{opened}
@@ -257,6 +259,16 @@ case-line : line figures ≡ ascii "asked 2 translated 1 faulted 1 absent 0 unse
 unfolding opened
 case-line = refl
 
+-- a buffer of the line's 51 bytes holds it whole
+case-line-written : lineInto figures (replicate 51 0x5A) ≡ record { answer = Written 51; buffer = line figures }
+unfolding opened
+case-line-written = refl
+
+-- with a byte less: nothing is written
+case-line-short : lineInto figures (replicate 50 0x5A) ≡ record { answer = Short; buffer = replicate 50 0x5A }
+unfolding opened
+case-line-short = refl
+
 -- an empty batch is accepted
 case-batch-empty : batchOver (sparse 0x40000000 0x8000 words) 0x40000000 0x8000 shared [] [] []
     ≡ record { answer = Batch.Done (record { asked = 0; translated = 0; faulted = 0; absent = 0; unsettled = 0 }); outputs = []; numbers = [] }
@@ -268,3 +280,28 @@ case-batch-refused : batchOver (sparse 0x40000000 0x8000 words) 0x40000000 0x800
     ≡ record { answer = Batch.Refused BatchLists; outputs = before ∷ []; numbers = before ∷ before ∷ [] }
 unfolding opened
 case-batch-refused = refl
+
+-- lists of unequal length are refused before the settings, and a refusal of the settings writes nothing either
+abbrev pub strange : Shared
+strange = record { el2 = record { pamax = 41; hcr = record { 0 = 0 }; vtcr = record { 0 = 0 }; vttbr = 0; sctlr = record { 0 = 0 } }; el1 = guest; kind = 0; el = 0; size = 8 }
+
+case-batch-order : batchOver (sparse 0x40000000 0x8000 words) 0x40000000 0x8000 strange (0x1008 ∷ []) [] [] .answer ≡ Batch.Refused BatchLists
+unfolding opened
+case-batch-order = refl
+
+case-batch-settings : batchOver (sparse 0x40000000 0x8000 words) 0x40000000 0x8000 strange (0x1008 ∷ []) (before ∷ []) (before ∷ [])
+    ≡ record { answer = Batch.Refused (Settings 1); outputs = before ∷ []; numbers = before ∷ [] }
+unfolding opened
+case-batch-settings = refl
+
+-- 4,096 addresses are not too many, one more is
+case-batch-most : unequal 4096 4096 4096 ≡ false
+case-batch-most = refl
+
+case-batch-over : unequal 4097 4097 4097 ≡ true
+case-batch-over = refl
+
+-- faults are answers 1 to 5; each answer is counted once
+case-figures : ledger (0 ∷ 1 ∷ 2 ∷ 3 ∷ 4 ∷ 5 ∷ 6 ∷ 7 ∷ []) ≡ record { asked = 8; translated = 1; faulted = 5; absent = 1; unsettled = 1 }
+unfolding opened
+case-figures = refl

@@ -18,11 +18,13 @@ use Rattle.level.specs.Level.{outputSize, start1, start2, sizeCheck, levelsBelo
 use Rattle.regime.specs.Roots.{rootOf, root2, stage1, stage2}
 use Rattle.answers.specs.Refusals.{refuse}
 use Rattle.answers.specs.Question.{told, turnedAway, askOver}
-use Rattle.batch.specs.Batch.{answerTo, outputOf, count, ledger, answered, batchOver}
-use Rattle.batch.specs.Ledger.{ascii, digits, decimal, line}
+use Rattle.batch.specs.Batch.{answerOf, outputOf, answered, batchOver}
+use Rattle.ledger.specs.Ledger.{count, ledger}
+use Rattle.ledger.specs.Ledger.{ascii, digits, decimal, line}
+use Rattle.ledger.specs.Line.{lineInto}
 use Rattle.audit.specs.Lists.{zip, all, ascends, grantFits, grantBefore, tableFits, tableBefore, wellFormed}
 use Rattle.audit.specs.Audit.{orElse, granted, touches, isListed, eachEntry, missing, examineAs, examine, auditTable, auditListed, auditFrom, auditOver}
 
 unfoldable pub opened : Unit {0}
-unfolding pick bind run reads ends descriptorType decodeAs deviceOf mairNibble stage2Bits shareabilityOf isDevice isNonCacheable reported normal mairByte stage2Codes stage1OffAttributes deviceRank cacheRank shareRank combineMemory stage1Permits stage2Permits little within memory wordAt byteAt image descriptorAt sparse ifPresent follow walk walkFrom unless settled permitted give check2 translate2 place1 check1 stage1Off translate1 finish access answer number carries firstFailing settings auditSettings outputSize start1 start2 sizeCheck levelsBelow rootOf root2 stage1 stage2 refuse told turnedAway askOver answerTo outputOf count ledger answered batchOver ascii digits decimal line zip all ascends grantFits grantBefore tableFits tableBefore wellFormed orElse granted touches isListed eachEntry missing examineAs examine auditTable auditListed auditFrom auditOver
+unfolding pick bind run reads ends descriptorType decodeAs deviceOf mairNibble stage2Bits shareabilityOf isDevice isNonCacheable reported normal mairByte stage2Codes stage1OffAttributes deviceRank cacheRank shareRank combineMemory stage1Permits stage2Permits little within memory wordAt byteAt image descriptorAt sparse ifPresent follow walk walkFrom unless settled permitted give check2 translate2 place1 check1 stage1Off translate1 finish access answer number carries firstFailing settings auditSettings outputSize start1 start2 sizeCheck levelsBelow rootOf root2 stage1 stage2 refuse told turnedAway askOver answerOf outputOf count ledger answered batchOver ascii digits decimal line lineInto zip all ascends grantFits grantBefore tableFits tableBefore wellFormed orElse granted touches isListed eachEntry missing examineAs examine auditTable auditListed auditFrom auditOver
 opened = tt

@@ -1,13 +1,13 @@
 -- What a call gives where a question is refused, and where it is not.
 -- Assumes nothing.
 use mathlib.Core.Path.{_≡_, sym, ap, ap₂, _∙_}
-use mathlib.Core.Bool.{true, false}
+use mathlib.Core.Bool.{true}
 use mathlib.Core.List.{List}
-use Prim.Native.Nat.{ℕ}
+use Prim.Native.Nat.{ℕ, _≤_}
 use native.Mathlib.Omega.{arith}
 use lib.Dec.{ltb}
 use lib.ListN.{length}
-use Rattle.bits.proofs.Tests.{pick-true, pick-false}
+use Rattle.bits.proofs.Tests.{pick-true}
 use Rattle.reads.specs.Program.{Outcome, reads}
 use Rattle.reads.specs.Ran.{Ran}
 use Rattle.access.specs.declared.Access.{Access}
@@ -19,7 +19,7 @@ use Rattle.registers.specs.declared.El1.{El1}
 use Rattle.registers.specs.declared.El2.{El2}
 use Rattle.regime.specs.Roots.{stage1, stage2}
 use Rattle.answers.specs.Answers as Answers
-use Rattle.answers.specs.Refusals.{refuse, verdict, shared}
+use Rattle.answers.specs.Refusals.{refuse, verdict, logWords, shared}
 use Rattle.answers.specs.Question.{refusal, told, ask, Tells}
 use Rattle.answers.specs.declared.Refusal.{Refusal}
 use Rattle.answers.specs.declared.Refusal.the-variants.{ShortLog}
@@ -27,6 +27,7 @@ use Rattle.answers.specs.declared.Verdict.{Verdict}
 use Rattle.answers.specs.declared.Verdict.the-variants as Verdict
 use Rattle.answers.specs.declared.Answer.{Answer}
 use Rattle.answers.specs.declared.Answer.the-variants.{Refused}
+use Rattle.answers.proofs.Verdicts.{long-log}
 use Rattle.answers.proofs.Counts.{is-access, is-refused}
 
 module _ (base : ℕ) (bytes : List ℕ) (r : El2) (g : El1) (a : Access) (log : List ℕ) where
@@ -40,13 +41,12 @@ module _ (base : ℕ) (bytes : List ℕ) (r : El2) (g : El1) (a : Access) (log :
   tells-short short = refused ShortLog (pick-true _ _ _ short)
 
   -- with a log that is long enough the verdict is what a batch is told too
-  module _ (long : ltb (length log) 24 ≡ false) where
+  module _ (long : logWords ≤ length log) where
     abbrev own : Verdict
     own = verdict (shared base (length bytes) r g (a .kind) (a .el) (a .size))
 
     is-own : refusal (length log) base (length bytes) r g a ≡ own
-    unfolding refuse
-    is-own = pick-false _ _ _ long
+    is-own = long-log (length log) base (length bytes) r g a long
 
     pub tells-refused : (why : Refusal) → own ≡ Verdict.Refused why → Tells (ask base bytes r g a log) (Refused why) log
     tells-refused why e = refused why (is-own ∙ e)

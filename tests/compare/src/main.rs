@@ -1,4 +1,5 @@
 //! Compares the proved function with an independent walk, and both with answers from outside.
+mod batches;
 mod classes;
 mod generate;
 mod proved;
@@ -18,11 +19,15 @@ use walk::{Capture, Question};
 const USAGE: &str = "\
 compare vectors FILE..      hold the walk and the proved function to the answers of files
 compare random COUNT SEED   compare the proved function with the walk on COUNT random questions, which SEED determines
+compare batches COUNT SEED  compare the proved batch with the walk on COUNT random batches
 The last line is 'N compared, M differ'. Exit status 0 exactly when M is 0, vectors were read, and no class of questions
-was missed by 200,000 random ones or more; 2 for bad arguments.";
+was missed by 200,000 random questions or more, or by 2,000 random batches or more; 2 for bad arguments.";
 
 /// From this many random questions on, a class that is missed is an error.
 const ALL_CLASSES: u64 = 200_000;
+
+/// From this many random batches on, a sort that is missed is an error.
+const ALL_BATCHES: u64 = 2_000;
 
 /// Disagreements printed in full: after a gross error there would be many thousands.
 const PRINTED: u64 = 20;
@@ -198,6 +203,20 @@ fn compare_random(count: u64, seed: u64) -> ExitCode {
     }
 }
 
+fn compare_batches(count: u64, seed: u64) -> ExitCode {
+    let (differ, missed) = batches::compare(count, seed);
+    let missed = if count >= ALL_BATCHES { missed } else { Vec::new() };
+    for class in &missed {
+        println!("missed: {class}");
+    }
+    println!("{count} compared, {differ} differ");
+    if differ == 0 && missed.is_empty() {
+        ExitCode::SUCCESS
+    } else {
+        ExitCode::FAILURE
+    }
+}
+
 fn main() -> ExitCode {
     let args: Vec<String> = std::env::args().skip(1).collect();
     match args.iter().map(String::as_str).collect::<Vec<_>>().as_slice() {
@@ -205,6 +224,11 @@ fn main() -> ExitCode {
         ["random", count, seed] => {
             if let (Ok(count @ 1..), Ok(seed)) = (count.parse(), seed.parse()) {
                 return compare_random(count, seed);
+            }
+        }
+        ["batches", count, seed] => {
+            if let (Ok(count @ 1..), Ok(seed)) = (count.parse(), seed.parse()) {
+                return compare_batches(count, seed);
             }
         }
         _ => {}

@@ -1,4 +1,4 @@
-//! The proved function, called as a C program calls it, and the words in which it answers.
+//! The proved functions, called as a C program calls them, and the words in which they answer.
 use crate::walk::{Answer, Cacheability, Capture, Cause, Memory, Question, Refusal};
 
 /// An answer as the exported call returns it. A word that the answer does not carry is 0.
@@ -17,6 +17,19 @@ pub struct Words {
     pub onwalk: u64,
     pub ipa: u64,
     pub reads: u64,
+}
+
+/// A batch's answer as the exported call returns it.
+#[repr(C)]
+#[derive(Clone, Copy, Debug, Default, PartialEq, Eq)]
+pub struct BatchWords {
+    pub number: u64,
+    pub item: u64,
+    pub asked: u64,
+    pub translated: u64,
+    pub faulted: u64,
+    pub absent: u64,
+    pub unsettled: u64,
 }
 
 extern "C" {
@@ -41,6 +54,31 @@ extern "C" {
         log: *mut u64,
         words: usize,
     ) -> Words;
+
+    fn humpelkaas_batch(
+        bytes: *const u8,
+        length: usize,
+        base: u64,
+        pamax: u64,
+        hcr_el2: u64,
+        vtcr_el2: u64,
+        vttbr_el2: u64,
+        sctlr_el2: u64,
+        sctlr_el1: u64,
+        tcr_el1: u64,
+        ttbr0_el1: u64,
+        ttbr1_el1: u64,
+        mair_el1: u64,
+        kind: u64,
+        el: u64,
+        size: u64,
+        addresses: *const u64,
+        asked: usize,
+        outputs: *mut u64,
+        placed: usize,
+        numbers: *mut u64,
+        numbered: usize,
+    ) -> BatchWords;
 }
 
 pub fn ask(q: &Question, capture: Capture, log: &mut [u64]) -> Words {
@@ -66,6 +104,37 @@ pub fn ask(q: &Question, capture: Capture, log: &mut [u64]) -> Words {
             q.size,
             log.as_mut_ptr(),
             log.len(),
+        )
+    }
+}
+
+/// Asks of each address what the question asks of its own.
+pub fn batch(q: &Question, capture: Capture, addresses: &[u64], outputs: &mut [u64], numbers: &mut [u64]) -> BatchWords {
+    // Sound as above.
+    unsafe {
+        humpelkaas_batch(
+            capture.bytes.as_ptr(),
+            capture.bytes.len(),
+            capture.base,
+            q.pamax,
+            q.hcr_el2,
+            q.vtcr_el2,
+            q.vttbr_el2,
+            q.sctlr_el2,
+            q.sctlr_el1,
+            q.tcr_el1,
+            q.ttbr0_el1,
+            q.ttbr1_el1,
+            q.mair_el1,
+            q.kind,
+            q.el,
+            q.size,
+            addresses.as_ptr(),
+            addresses.len(),
+            outputs.as_mut_ptr(),
+            outputs.len(),
+            numbers.as_mut_ptr(),
+            numbers.len(),
         )
     }
 }

@@ -6,7 +6,7 @@ pub const WRITE: u64 = 1;
 pub const FETCH: u64 = 2;
 
 /// "What one question holds", but for the capture and the log.
-#[derive(Clone, Copy, Default)]
+#[derive(Clone, Copy, Debug, Default)]
 pub struct Question {
     pub pamax: u64,
     pub hcr_el2: u64,

@@ -1,7 +1,7 @@
 -- `translate` meets its contract: the verdict, and then the access.
 -- Assumes nothing.
 use borrow.Author.Needs.{needs}
-use borrow.Author.Tests.{lt-ltb, le-ltb}
+use borrow.Author.Tests.{lt-ltb}
 use mathlib.Core.Path.{sym, _∙_}
 use lib.ListN.{length}
 use Rattle.regime.proofs.Ready.{ready}
@@ -25,7 +25,7 @@ access-requires c κs =
 returns-2 : tie.Need-returns-2
 returns-2 c =
     let v = c .before .before .before in (
-      tells-refused _ _ _ _ _ _ (le-ltb _ _ (v .before .if1 .left)) _ (sym (v .shared-verdict .ensures) ∙ c .before .verdict .given .1),
+      tells-refused _ _ _ _ _ _ (v .before .if1 .left) _ (sym (v .shared-verdict .ensures) ∙ c .before .verdict .given .1),
       (counts _ _ _ _ _ _, λ other. framing _ _ _ _ _ _ _),
     )
 
@@ -35,7 +35,7 @@ returns-3 c =
     let stages = ran .before .before in
     let told = stages .before .before in
     let v = told .before .before in (
-      tells-ran _ _ _ _ _ _ (le-ltb _ _ (v .before .if1 .left)) _ _ _ _ (sym (v .shared-verdict .ensures) ∙ told .enum-told .given .1)
+      tells-ran _ _ _ _ _ _ (v .before .if1 .left) _ _ _ _ (sym (v .shared-verdict .ensures) ∙ told .enum-told .given .1)
           (rw (stages .before .stage1 .ensures, stages .stage2 .ensures) at (ran .access .ensures .0)) (c .answered .ensures),
       (counts _ _ _ _ _ _, λ other. framing _ _ _ _ _ _ _),
     )

@@ -1,0 +1,4 @@
+pub mod Figures
+pub mod Page
+pub mod Digits
+pub mod Fields

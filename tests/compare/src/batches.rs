@@ -1,0 +1,138 @@
+//! Compares the proved batch with the independent walk, address by address.
+use crate::generate::Questions;
+use crate::proved::{self, BatchWords, Words};
+use crate::random::Random;
+use crate::walk::{self, Capture, Question};
+use std::collections::BTreeMap;
+
+/// The longest list that is accepted.
+const MOST: usize = 4096;
+
+/// Lengths that every run meets first.
+const LENGTHS: [usize; 6] = [0, 1, 2, MOST - 1, MOST, MOST + 1];
+
+/// Words that a call must keep: no output address, and no number of an answer.
+const KEPT: u64 = 0xfeed_face_cafe_f00d;
+
+/// What a batch gives: its answer, and both lists.
+#[derive(PartialEq, Eq)]
+struct Told {
+    words: BatchWords,
+    outputs: Vec<u64>,
+    numbers: Vec<u64>,
+}
+
+/// Addresses around a question's, with some far away.
+fn addresses(random: &mut Random, q: &Question, count: usize) -> Vec<u64> {
+    (0..count)
+        .map(|_| match random.below(8) {
+            0 => q.address,
+            1..=3 => q.address ^ random.bits(14),
+            4 | 5 => q.address ^ random.bits(2) << random.below(63),
+            6 => q.address ^ random.bits(40),
+            _ => random.word(),
+        })
+        .collect()
+}
+
+/// How many addresses batch number n has: each length of the list once, and then others.
+fn length(random: &mut Random, n: u64) -> usize {
+    match LENGTHS.get(n as usize) {
+        Some(length) => *length,
+        None if random.percent(10) => random.below(3) as usize,
+        None => random.below(60) as usize,
+    }
+}
+
+/// The walk's answers, one by one.
+fn expected(q: &Question, capture: Capture, addresses: &[u64], mut outputs: Vec<u64>, mut numbers: Vec<u64>) -> Told {
+    let refused = |number, item, outputs, numbers| Told { words: BatchWords { number, item, ..BatchWords::default() }, outputs, numbers };
+    if outputs.len() != addresses.len() || numbers.len() != addresses.len() || addresses.len() > MOST {
+        return refused(14, 0, outputs, numbers);
+    }
+    let ask = |address| Words::from(walk::ask(&Question { address, ..*q }, capture, &mut [0; 24]));
+    let first = ask(q.address);
+    if first.number >= 10 {
+        return refused(first.number, first.item, outputs, numbers);
+    }
+    let mut words = BatchWords { asked: addresses.len() as u64, ..BatchWords::default() };
+    for (i, address) in addresses.iter().enumerate() {
+        let answer = ask(*address);
+        numbers[i] = answer.number;
+        outputs[i] = if answer.number == 0 { answer.address } else { 0 };
+        *match answer.number {
+            0 => &mut words.translated,
+            1..=5 => &mut words.faulted,
+            6 => &mut words.absent,
+            _ => &mut words.unsettled,
+        } += 1;
+    }
+    Told { words, outputs, numbers }
+}
+
+/// How often each sort of batch was met.
+struct Met(BTreeMap<String, u64>);
+
+impl Met {
+    fn new() -> Met {
+        let mut all = BTreeMap::new();
+        for number in [0, 11, 12, 13, 14] {
+            all.insert(format!("answer {number:2}"), 0);
+        }
+        for length in LENGTHS {
+            all.insert(format!("length {length:4}"), 0);
+        }
+        for sort in ["translated", "faulted", "absent", "unsettled"] {
+            all.insert(format!("addresses {sort}"), 0);
+        }
+        Met(all)
+    }
+
+    fn add(&mut self, name: String, count: u64) {
+        if let Some(met) = self.0.get_mut(&name) {
+            *met += count;
+        }
+    }
+
+    fn meet(&mut self, length: usize, words: &BatchWords) {
+        self.add(format!("answer {:2}", words.number), 1);
+        self.add(format!("length {length:4}"), 1);
+        for (sort, count) in
+            [("translated", words.translated), ("faulted", words.faulted), ("absent", words.absent), ("unsettled", words.unsettled)]
+        {
+            self.add(format!("addresses {sort}"), count);
+        }
+    }
+}
+
+/// Compares COUNT random batches. How many differ, and what was not met.
+pub fn compare(count: u64, seed: u64) -> (u64, Vec<String>) {
+    let mut random = Random::new(seed ^ 0xba7c4);
+    let mut questions = Questions::new(seed);
+    let mut met = Met::new();
+    let mut differ = 0;
+    for n in 0..count {
+        let (image, asked) = questions.next();
+        let q = &asked.question;
+        let capture = Capture { base: asked.base, bytes: &image.bytes[asked.part.clone()] };
+        let long = length(&mut random, n);
+        let list = addresses(&mut random, q, long);
+        // One list in twenty is of another length.
+        let mut other = |n: usize| if random.percent(5) { (n + random.below(3) as usize).saturating_sub(1) } else { n };
+        let (outputs, numbers) = (vec![KEPT; other(list.len())], vec![KEPT; other(list.len())]);
+        let wanted = expected(q, capture, &list, outputs.clone(), numbers.clone());
+        let mut told = Told { words: BatchWords::default(), outputs, numbers };
+        told.words = proved::batch(q, capture, &list, &mut told.outputs, &mut told.numbers);
+        met.meet(list.len(), &wanted.words);
+        if told != wanted || image.bytes != image.copy {
+            differ += 1;
+            let first = told.numbers.iter().zip(&wanted.numbers).zip(told.outputs.iter().zip(&wanted.outputs));
+            let at = first.take_while(|((a, b), (c, d))| a == b && c == d).count();
+            println!("batch of {}: first differs at {at}: {:x?} for {:x?}\n  {q:x?}", list.len(), told.words, wanted.words);
+        }
+    }
+    for (name, met) in &met.0 {
+        println!("{name}: {met}");
+    }
+    (differ, met.0.into_iter().filter(|(_, met)| *met == 0).map(|(name, _)| name).collect())
+}
