@@ -1,0 +1,167 @@
+//! What the straightforward walk goes by: the registers, decoded once for a whole batch. Settings must be accepted ones.
+use crate::question::Question;
+use crate::straight::Stop;
+
+/// The output sizes by IPS or PS.
+const SIZES: [u64; 6] = [32, 36, 40, 42, 44, 48];
+
+/// Where a stage's table walk starts.
+pub struct Root {
+    pub table: u64,
+    /// The lowest input bit of the root's index.
+    pub shift: u32,
+    /// The bits of the root's index, shifted down.
+    pub index: u64,
+    /// 2 to the output size.
+    pub limit: u64,
+    /// Whether Arm leaves a level 1 block with the contiguous bit open.
+    pub contiguous_open: bool,
+}
+
+/// One half of stage 1's input addresses: the bits that are tested, and what they must be.
+pub struct Half {
+    pub tested: u64,
+    pub wanted: u64,
+    /// The root, or the stop that every walk of this half meets.
+    pub root: Result<Root, Stop>,
+}
+
+/// What of a MAIR_EL1 byte decides an answer's number.
+#[derive(Clone, Copy)]
+pub enum Memory {
+    Device,
+    Normal,
+    Unsettled,
+}
+
+pub struct Stage1 {
+    pub low: Half,
+    pub high: Half,
+    pub mair: [Memory; 8],
+    pub write_implies_xn: bool,
+}
+
+/// Stage 1 if it is off: the address bits that must be 0, by bit 55.
+pub struct Flat {
+    pub low: u64,
+    pub high: u64,
+    pub device: bool,
+}
+
+pub enum First {
+    On(Stage1),
+    Off(Flat),
+}
+
+pub struct Stage2 {
+    /// 2 to the input size.
+    pub inputs: u64,
+    /// The root, or the stop that every walk meets.
+    pub root: Result<Root, Stop>,
+    pub protected_walk: bool,
+}
+
+fn bit(word: u64, at: u32) -> bool {
+    word >> at & 1 == 1
+}
+
+/// The bits from `low` up to and including `top`.
+fn ones(top: u64, low: u64) -> u64 {
+    u64::MAX >> (63 - top) & u64::MAX << low
+}
+
+/// The highest address bit that counts in a half.
+fn top(q: &Question, high: bool) -> u64 {
+    if bit(q.tcr_el1, if high { 38 } else { 37 }) {
+        55
+    } else {
+        63
+    }
+}
+
+/// The root of a walk from a base register. Bits of the base under the root's size are ignored.
+fn root(base: u64, size: u64, output_size: u64, shift: u64) -> Result<Root, Stop> {
+    let address = base & ones(47, 0);
+    if address >> output_size != 0 {
+        return Err(Stop::AddressSize);
+    }
+    let bits = size - shift;
+    Ok(Root {
+        table: address & u64::MAX << (bits + 3),
+        shift: shift as u32,
+        index: (1 << bits) - 1,
+        limit: 1 << output_size,
+        contiguous_open: size < 34,
+    })
+}
+
+/// One half, with its own base register. A disabled half's size is not looked at: the settings do not test it.
+fn half(q: &Question, high: bool) -> Half {
+    let (base, field, disabled) =
+        if high { (q.ttbr1_el1, q.tcr_el1 >> 16 & 63, bit(q.tcr_el1, 23)) } else { (q.ttbr0_el1, q.tcr_el1 & 63, bit(q.tcr_el1, 7)) };
+    if disabled {
+        return Half { tested: 0, wanted: 0, root: Err(Stop::Translation) };
+    }
+    let size = 64 - field;
+    let shift = match size {
+        40..=48 => 39,
+        31..=39 => 30,
+        _ => 21,
+    };
+    let tested = ones(top(q, high), size);
+    let wanted = if high { tested } else { 0 };
+    Half { tested, wanted, root: root(base, size, SIZES[(q.tcr_el1 >> 32 & 7) as usize], shift) }
+}
+
+fn memory(byte: u64) -> Memory {
+    match (byte >> 4, byte & 15) {
+        (0, 0 | 4 | 8 | 12) => Memory::Device,
+        (0, _) | (_, 0) => Memory::Unsettled,
+        _ => Memory::Normal,
+    }
+}
+
+fn mair(register: u64) -> [Memory; 8] {
+    let mut all = [Memory::Unsettled; 8];
+    for (i, one) in all.iter_mut().enumerate() {
+        *one = memory(register >> (8 * i) & 0xff);
+    }
+    all
+}
+
+/// Stage 1 is on with SCTLR_EL1.M, unless HCR_EL2.DC is set.
+pub fn first(q: &Question) -> First {
+    let default_cacheable = bit(q.hcr_el2, 12);
+    if bit(q.sctlr_el1, 0) && !default_cacheable {
+        return First::On(Stage1 {
+            low: half(q, false),
+            high: half(q, true),
+            mair: mair(q.mair_el1),
+            write_implies_xn: bit(q.sctlr_el1, 19),
+        });
+    }
+    let must_be_zero = |high| ones(top(q, high), q.pamax);
+    First::Off(Flat { low: must_be_zero(false), high: must_be_zero(true), device: !default_cacheable && q.kind != 2 })
+}
+
+/// The root of stage 2, whose start level and size check are signed numbers.
+fn root2(q: &Question, size: u64) -> Result<Root, Stop> {
+    let level = 2 - (q.vtcr_el2 >> 6 & 3) as i64;
+    if level < 0 || level == 0 && q.pamax <= 42 {
+        return Err(Stop::Translation);
+    }
+    let shift = 12 + 9 * (3 - level);
+    match size as i64 - shift {
+        1..=13 => root(q.vttbr_el2, size, SIZES[(q.vtcr_el2 >> 16 & 7) as usize], shift as u64),
+        _ => Err(Stop::Translation),
+    }
+}
+
+/// Stage 2 is on with HCR_EL2.VM or HCR_EL2.DC.
+pub fn second(q: &Question) -> Option<Stage2> {
+    if !bit(q.hcr_el2, 0) && !bit(q.hcr_el2, 12) {
+        return None;
+    }
+    let size = 64 - (q.vtcr_el2 & 63);
+    Some(Stage2 { inputs: 1 << size, root: root2(q, size), protected_walk: bit(q.hcr_el2, 2) })
+}
