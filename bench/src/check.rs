@@ -1,7 +1,6 @@
 //! Before anything is timed: all three must say the same.
-use crate::proved;
-use crate::question::LOG;
 use crate::straight::Walker;
+use crate::straight::LOG;
 use crate::workloads::{Workload, BATCH};
 
 /// One address in so many is put to the proved question too.
@@ -38,7 +37,7 @@ fn batch_agrees(workload: &Workload, walker: &Walker, addresses: &[u64]) -> Resu
     let mut straight = (vec![u64::MAX; BATCH], vec![u64::MAX; BATCH]);
     let mut batch = straight.clone();
     walker.batch(addresses, &mut straight.0, &mut straight.1, &mut [0; LOG]);
-    let words = proved::batch(&workload.question, workload.capture(), addresses, &mut batch.0, &mut batch.1);
+    let words = calls::batch(&workload.question, workload.capture(), addresses, &mut batch.0, &mut batch.1);
     if words.number != 0 || words.asked != addresses.len() as u64 {
         return Err(format!("the proved batch answers {} and asked {}", words.number, words.asked));
     }
@@ -55,7 +54,7 @@ fn batch_agrees(workload: &Workload, walker: &Walker, addresses: &[u64]) -> Resu
 fn question_agrees(workload: &Workload, walker: &Walker, address: u64) -> Result<(), String> {
     let (mut ours, mut theirs) = ([0; LOG], [0; LOG]);
     let answer = walker.translate(address, &mut ours);
-    let words = proved::ask(&workload.question, workload.capture(), address, &mut theirs);
+    let words = calls::ask(&workload.question, workload.capture(), address, &mut theirs);
     let output = if words.number == 0 { words.address } else { 0 };
     if (answer.number, answer.output, answer.reads as u64) != (words.number, output, words.reads) || ours != theirs {
         return Err(format!(

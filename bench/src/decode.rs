@@ -1,6 +1,6 @@
 //! What the straightforward walk goes by: the registers, decoded once for a whole batch. Settings must be accepted ones.
-use crate::question::Question;
 use crate::straight::Stop;
+use calls::Question;
 
 /// The output sizes by IPS or PS.
 const SIZES: [u64; 6] = [32, 36, 40, 42, 44, 48];

@@ -7,7 +7,6 @@
 mod check;
 mod decode;
 mod proved;
-mod question;
 mod random;
 mod straight;
 mod tables;

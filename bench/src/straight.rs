@@ -1,7 +1,10 @@
 //! A straightforward table walk in Rust, by the rules of document 01: what the proved walk is measured against.
 //! Registers are decoded once for a batch, slices are safe, each stage is one loop over its levels.
 use crate::decode::{first, second, First, Flat, Half, Memory, Root, Stage1, Stage2};
-use crate::question::{Capture, Question, LOG};
+use calls::{Capture, Question};
+
+/// Words of a log, as many as one address may need.
+pub const LOG: usize = 24;
 
 /// Why there is no output address, by its answer's number.
 #[derive(Clone, Copy)]

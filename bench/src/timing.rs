@@ -1,7 +1,7 @@
 //! Times of a workload's batches through all three, in interleaved rounds.
 use crate::proved;
-use crate::question::LOG;
 use crate::straight::Walker;
+use crate::straight::LOG;
 use crate::workloads::{Workload, BATCH, BATCHES};
 use std::time::Instant;
 
@@ -35,7 +35,7 @@ fn timed(which: usize, workload: &Workload, addresses: &[u64], lent: &mut Lent) 
     match which {
         0 => Walker::new(q, capture).batch(addresses, outputs, numbers, log),
         1 => {
-            proved::batch(q, capture, addresses, outputs, numbers);
+            calls::batch(q, capture, addresses, outputs, numbers);
         }
         _ => proved::one_by_one(q, capture, addresses, outputs, numbers, log),
     }

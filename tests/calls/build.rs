@@ -1,4 +1,4 @@
-//! Links the proved function, which `rt staticlib exported` puts into a static library.
+//! Links the proved functions, which `rt staticlib exported` puts into a static library.
 
 fn main() {
     println!("cargo:rerun-if-env-changed=HUMPELKAAS_LIB");
@@ -9,7 +9,7 @@ fn main() {
             println!("cargo:rerun-if-changed={folder}/libexported.a");
         }
         Err(_) => {
-            eprintln!("HUMPELKAAS_LIB does not say where libexported.a is: run tools/compare, which builds it and sets this.");
+            eprintln!("HUMPELKAAS_LIB does not say where libexported.a is: run tools/compare or tools/bench, which build it and set this.");
             std::process::exit(1);
         }
     }
