@@ -26,7 +26,7 @@ use Rattle.answers.specs.declared.Verdict.the-variants.{Accepted, Refused}
 use Rattle.answers.specs.declared.Answer.{Answer}
 use Rattle.answers.proofs.Refusals.{refuse-refused, refuse-accepted, by-refuse}
 use Rattle.answers.proofs.Verdicts.{long-log, later-accepted}
-use Rattle.answers.proofs.Counts.{is-access}
+use Rattle.answers.proofs.Counts.{is-access, counts}
 use Rattle.answers.proofs.Framing.{framing}
 use Rattle.batch.specs.Batch.{Shared, accessTo, answerOf, answerTo, batchGrounds, BatchTold, answered, batchOver, batch}
 use Rattle.batch.specs.Promises.{Balanced, Promised}
@@ -94,5 +94,6 @@ promised base bytes s addresses outputs numbers =
     record {
       balanced = by-refuse (λ (t : BatchTold). Balanced (t .answer)) _ _ _ (λ why. tt) (adds-up _ (sorted-all _ (λ a. sorted-answer _ _ _ _) addresses));
       asks = asks base bytes s;
+      counted = λ log a. counts base bytes (s .el2) (s .el1) (accessTo s a) log;
       framed = λ bytes′ log long bounds same. by-verdict base bytes bytes′ s addresses outputs numbers log long bounds same _ refl;
     }

@@ -8,6 +8,7 @@ use Rattle.reads.specs.Program.{All}
 use Rattle.capture.specs.Capture.{captured, SameBytes}
 use Rattle.answers.specs.Refusals.{logWords, verdict, shared}
 use Rattle.answers.specs.Question.{ask}
+use Rattle.answers.specs.Counts.{Counts}
 use Rattle.answers.specs.declared.Verdict.the-variants.{Accepted}
 use Rattle.batch.specs.declared.BatchAnswer.{BatchAnswer}
 use Rattle.batch.specs.declared.BatchAnswer.the-variants.{Done, Refused}
@@ -26,10 +27,11 @@ Balanced (Refused r) = Unit {0}
 
 pub record Promised (base : ℕ) (bytes : List ℕ) (s : Shared) (addresses outputs numbers : List ℕ) : Type 0 where
   pub balanced : Balanced (batch base bytes s addresses outputs numbers .answer)
-  -- an entry is what the question gives for that address, whatever log of 24 words or more it has. So each entry has the question's
-  -- counts, and depends on no byte but those of the descriptors that the question reads.
+  -- an entry is what the question gives for that address, whatever log of 24 words or more it has
   pub asks : verdict (shared base (length bytes) (s .el2) (s .el1) (s .kind) (s .el) (s .size)) ≡ Accepted → (log : List ℕ) → logWords ≤ length log → (address : ℕ) →
       answerTo (captured base bytes) s address ≡ ask base bytes (s .el2) (s .el1) (accessTo s address) log .answer
+  -- so it has the question's number of reads
+  pub counted : (log : List ℕ) (address : ℕ) → Counts base bytes (s .el2) (s .el1) (accessTo s address) log
   -- two captures of the same bounds, with the same bytes in each descriptor that the questions read from the first: the same batch
   pub framed : (bytes′ log : List ℕ) → logWords ≤ length log → length bytes ≡ length bytes′ →
       All (λ a. All (λ q. SameBytes base bytes bytes′ (q .address) 8) (ask base bytes (s .el2) (s .el1) (accessTo s a) log .reads)) addresses →
