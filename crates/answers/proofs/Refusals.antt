@@ -10,7 +10,6 @@ use Rattle.bits.specs.Bits.{pick}
 use Rattle.bits.proofs.Tests.{by-pick}
 use Rattle.answers.specs.declared.Refusal.{Refusal}
 use Rattle.answers.specs.declared.Refusal.the-variants.{ShortLog, HighCapture, Settings, Unlisted, BatchLists, AuditLists, NoRoot}
-use Rattle.answers.specs.declared.Verdict.{Verdict}
 use Rattle.answers.specs.declared.Verdict.the-variants.{Accepted, Refused}
 use Rattle.registers.specs.declared.El1.{El1}
 use Rattle.registers.specs.declared.El2.{El2}

@@ -1,6 +1,6 @@
 -- The verdict on a question, where its own ground does not decide; and where the grounds after one decide.
 -- Assumes nothing.
-use mathlib.Core.Path.{_≡_, refl}
+use mathlib.Core.Path.{_≡_}
 use mathlib.Core.Bool.{Bool, true, false}
 use mathlib.Core.List.{List, _∷_}
 use Prim.Native.Nat.{ℕ, _≤_}
@@ -11,7 +11,6 @@ use Rattle.bits.proofs.Tests.{pick-false}
 use Rattle.access.specs.declared.Access.{Access}
 use Rattle.registers.specs.declared.El1.{El1}
 use Rattle.registers.specs.declared.El2.{El2}
-use Rattle.answers.specs.declared.Verdict.{Verdict}
 use Rattle.answers.specs.declared.Verdict.the-variants.{Accepted, Refused}
 use Rattle.answers.specs.Refusals.{Ground, refuse, verdict, logWords, shared}
 use Rattle.answers.specs.Question.{refusal}

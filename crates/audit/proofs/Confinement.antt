@@ -1,13 +1,13 @@
 -- After a clean audit every question is confined.
 -- Assumes nothing.
 use mathlib.Core.Path.{_≡_, refl, sym, subst, _∙_}
-use mathlib.Core.Bool.{true, false}
+use mathlib.Core.Bool.{true}
 use mathlib.Core.List.{List}
 use Prim.Native.Nat.{ℕ, suc, _+_, _-_, _*_, _%_, _^_, _<_}
 use native.Mathlib.Omega.{arith}
 use lib.ListN.{length, getD}
 use borrow.Author.Tests.{not-false}
-use Rattle.reads.specs.Program.{Request, Outcome, reached, stopped, run, reads, All, nil}
+use Rattle.reads.specs.Program.{Request, Outcome, reached, stopped, run, reads, nil}
 use Rattle.access.specs.declared.Access.{Access}
 use Rattle.reads.specs.declared.Read.{Read}
 use Rattle.reads.proofs.Holds.{OnOutcome, Holds, holds-reads, holds-run}

@@ -1,11 +1,11 @@
 -- A list filled word by word, from its start on.
 -- Assumes nothing.
-use mathlib.Core.Path.{_≡_, refl, sym, ap, _∙_}
-use mathlib.Core.List.{List, [], _∷_, _++_, map, append-nil}
-use Prim.Native.Nat.{ℕ, zero, suc, _+_, _≤_, _<_}
+use mathlib.Core.Path.{_≡_, refl, _∙_}
+use mathlib.Core.List.{List, [], map, append-nil}
+use Prim.Native.Nat.{ℕ, _+_, _≤_, _<_}
 use native.Mathlib.Numerals.{add-one}
 use native.Mathlib.Omega.{arith}
-use lib.ListN.{length, set, take, drop, getD, length-set, length-map, drop-of-length-le}
+use lib.ListN.{length, set, drop, getD, length-set, length-map, drop-of-length-le}
 use lib.Seq.{sets, sets-eq, drop-cons}
 
 -- the words from i on are still to be stored: what is stored from here is what is stored from the start

@@ -6,7 +6,7 @@ use mathlib.Core.List.{List, map}
 use Prim.Native.Nat.{ℕ, _≤_}
 use lib.Dec.{ltb, eqb}
 use lib.ListN.{length}
-use borrow.Author.Tests.{eqb-true, ltb-false, not-false}
+use borrow.Author.Tests.{eqb-true, ltb-false}
 use Rattle.bits.proofs.Tests.{pick-true, pick-false}
 use Rattle.capture.specs.Capture.{captured}
 use Rattle.answers.specs.Refusals.{refuse, verdict, shared}

@@ -2,8 +2,8 @@
 -- Assumes nothing.
 use mathlib.Core.Path.{_≡_, refl, _∙_}
 use mathlib.Core.Bool.{true, false}
-use mathlib.Core.List.{List, _++_, append-assoc, append-nil}
-use Prim.Native.Nat.{ℕ, _+_, _-_, _≤_, _<_}
+use mathlib.Core.List.{List, append-assoc, append-nil}
+use Prim.Native.Nat.{ℕ, _-_, _≤_, _<_}
 use native.Mathlib.Omega.{arith}
 use borrow.Author.Tests.{lt-ltb, le-ltb}
 use lib.Dec.{ltb}
@@ -11,7 +11,6 @@ use lib.ListN.{length, take, drop, length-append}
 use lib.Seq.{sets, take-length, drop-length}
 use Rattle.bits.proofs.Tests.{pick-true, pick-false}
 use Rattle.ledger.specs.declared.Ledger.{Ledger}
-use Rattle.ledger.specs.declared.line.LineAnswer.{LineAnswer}
 use Rattle.ledger.specs.declared.line.LineAnswer.the-variants.{Written, Short}
 use Rattle.ledger.specs.Ledger.{ascii, decimal, line}
 use Rattle.ledger.specs.Line.{Put, Field, sorts, lineInto, LineTells}

@@ -1,7 +1,7 @@
 -- How many reads an access makes: with n1 and n2 levels at most n1 x (n2 + 1) + n2, met by a translated access exactly when each walk ends at level 3.
 -- Assumes nothing.
 use mathlib.Core.Path.{sym, subst}
-use mathlib.Core.Bool.{Bool, true, false}
+use mathlib.Core.Bool.{true, false}
 use Prim.Native.Nat.{ℕ, suc, _+_, _*_}
 use native.Mathlib.Nat.{zero-mul}
 use Rattle.bits.specs.Bits.{pick}

@@ -8,7 +8,6 @@ use walk::check::Output;
 use walk::stage2;
 use walk::stage2::Stage2;
 use walk::stop::Stop;
-ghost use mathlib.Core.Path.{_≡_};
 ghost use Prim.Native.Nat.{_+_, _≤_};
 ghost use lib.ListN.{length};
 ghost use Rattle.reads.specs.Ran.{Ran};

@@ -2,7 +2,7 @@
 -- And stage 2's translation: at most one a level.
 -- Assumes nothing.
 use mathlib.Core.Path.{_≡_, refl, sym, subst}
-use mathlib.Core.Bool.{Bool, true, false}
+use mathlib.Core.Bool.{Bool}
 use mathlib.Core.List.{[], _∷_}
 use Prim.Native.Nat.{ℕ, zero, suc, _+_, _-_, _*_, zero-le}
 use native.Mathlib.Nat.{mul-one, zero-mul, add-zero}
@@ -17,12 +17,11 @@ use Rattle.descriptor.specs.declared.entry.Entry.{Entry}
 use Rattle.descriptor.specs.declared.entry.Entry.the-variants as E
 use Rattle.descriptor.specs.declared.entry.Inherited.{Inherited}
 use Rattle.bits.proofs.Tests.{by-pick}
-use Rattle.reads.proofs.Tally.{AllThree, Tight, tight-stop, tight-done, tight-bind, tight-choice, tight-ask}
+use Rattle.reads.proofs.Tally.{AllThree, Tight, tight-stop, tight-done, tight-bind, tight-ask}
 use Rattle.walk.specs.declared.stop.Stage.{Stage}
-use Rattle.walk.specs.declared.stop.Stage.the-variants.{One, Two}
+use Rattle.walk.specs.declared.stop.Stage.the-variants.{Two}
 use Rattle.walk.specs.declared.stop.Stop.{Stop}
 use Rattle.walk.specs.declared.table.Leaf.{Leaf}
-use Rattle.walk.specs.declared.check.Output.{Output}
 use Rattle.walk.specs.declared.table.Root.{Root}
 use Rattle.walk.specs.declared.table.Root.the-variants.{Unusable, Usable}
 use Rattle.walk.specs.declared.check.Checked.{Checked}

@@ -1,6 +1,6 @@
 -- For the contracts of code: what its answers stand for, and the roots that a walk may be called with.
 -- Assumes nothing.
-use Prim.Native.Nat.{ℕ, _≤_, _<_, _^_}
+use Prim.Native.Nat.{_≤_, _<_, _^_}
 use Rattle.reads.specs.Program.{Outcome, reached, stopped}
 use Rattle.walk.specs.declared.stop.Stop.{Stop}
 use Rattle.walk.specs.declared.table.Leaf.{Leaf}

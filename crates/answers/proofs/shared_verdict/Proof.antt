@@ -2,7 +2,6 @@
 -- Assumes nothing.
 use borrow.Author.Needs.{needs}
 use borrow.Author.Tests.{eq-eqb, ne-eqb}
-use mathlib.Core.Path.{sym, _∙_}
 use Rattle.bits.specs.Bits.{pick}
 use Rattle.answers.specs.Refusals.{refuse}
 use Rattle.answers.proofs.shared_verdict.Statement.{statement}
