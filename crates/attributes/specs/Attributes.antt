@@ -15,6 +15,8 @@ use Rattle.attributes.specs.declared.Shareability.the-variants.{NonShare
 use Rattle.attributes.specs.declared.Attributes.{Attributes}
 use Rattle.attributes.specs.declared.Decoded.{Decoded}
 use Rattle.attributes.specs.declared.Decoded.the-variants.{Settled, Unsettled}
+use Rattle.attributes.specs.declared.MemoryClass.{MemoryClass}
+use Rattle.attributes.specs.declared.MemoryClass.the-variants as Class
 
 -- ---- codes
 
@@ -83,6 +85,17 @@ stage2Codes uncached sh outer inner =
 
 abbrev pub stage2Attributes : (uncached : Bool) (x : ℕ) → Decoded
 stage2Attributes uncached x = stage2Codes uncached (field x 8 2) (field x 4 2) (field x 2 2)
+
+-- ---- what decides whether an access passes
+
+unfoldable pub classOf : Decoded → MemoryClass
+classOf (Settled a) = pick (isDevice (a .memory)) Class.Device Class.Normal
+classOf Unsettled = Class.Unsettled
+
+-- the attributes, for who has found them settled; else the strictest
+unfoldable pub settledPart : Decoded → Attributes
+settledPart (Settled a) = a
+settledPart Unsettled = reported (Device NGnRnE) OuterShareable
 
 -- ---- stage 1 off
 

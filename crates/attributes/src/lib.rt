@@ -1,7 +1,8 @@
 // Memory attributes: decoding, combining, reporting.
 use bits::field;
 ghost use mathlib.Core.Path.{_≡_};
-ghost use mathlib.Core.Bool.{_&&_};
+ghost use mathlib.Core.Bool.{Bool, _&&_};
+ghost use lib.Dec.{eqb};
 ghost use Rattle.bits.specs.Bits.{pick};
 ghost use Rattle.attributes.specs.Attributes as Memories;
 
@@ -42,6 +43,13 @@ pub struct Attributes {
 pub enum Decoded {
     Settled(Attributes),
     Unsettled,
+}
+
+// What of a leaf's memory decides whether an access passes: whether Arm settles it, and whether it is Device memory.
+pub enum MemoryClass {
+    Unsettled,
+    Device,
+    Normal,
 }
 
 // Device memory by two bits, in the order of the list.
@@ -233,6 +241,68 @@ pub fn stage2_attributes(uncached: bool, x: u64) -> Decoded
     ensures { λ r. ⌜ r ≡ Memories.stage2Attributes uncached x ⌝ }
 {
     stage2_codes(uncached, field(x, 8, 2), field(x, 4, 2), field(x, 2, 2))
+}
+
+// The class of Normal memory: its SH must be a code.
+fn normal_class(sh: u64) -> MemoryClass
+    ensures { λ r. ⌜ r ≡ pick (eqb sh 1) MemoryClass.Unsettled MemoryClass.Normal ⌝ }
+{
+    if sh == 1 {
+        MemoryClass::Unsettled
+    } else {
+        MemoryClass::Normal
+    }
+}
+
+// The class by a byte of MAIR, and SH.
+fn mair_class(sh: u64, byte: u64) -> MemoryClass
+    ensures { λ r. ⌜ ((u : Bool) → r ≡ Memories.classOf (Memories.mairByte u sh byte)) ⌝ }
+{
+    if byte / 16 == 0 {
+        if byte % 4 == 0 {
+            MemoryClass::Device
+        } else {
+            MemoryClass::Unsettled
+        }
+    } else if byte % 16 == 0 {
+        MemoryClass::Unsettled
+    } else {
+        normal_class(sh)
+    }
+}
+
+// The class of stage 1's descriptor x. Caching off does not change it, and no attributes are decoded for it.
+pub fn stage1_class(mair: u64, x: u64) -> MemoryClass
+    ensures { λ r. ⌜ ((u : Bool) → r ≡ Memories.classOf (Memories.stage1Attributes mair u x)) ⌝ }
+{
+    let place = 8 * field(x, 2, 3);
+    mair_class(field(x, 8, 2), field(mair, place, 8))
+}
+
+// The class of stage 2's descriptor x, likewise.
+pub fn stage2_class(x: u64) -> MemoryClass
+    ensures { λ r. ⌜ ((u : Bool) → r ≡ Memories.classOf (Memories.stage2Attributes u x)) ⌝ }
+{
+    if field(x, 4, 2) == 0 {
+        MemoryClass::Device
+    } else if field(x, 2, 2) == 0 {
+        MemoryClass::Unsettled
+    } else {
+        normal_class(field(x, 8, 2))
+    }
+}
+
+// The attributes, for who has found them settled.
+pub fn settled_part(d: Decoded) -> Attributes
+    ensures { λ r. ⌜ r ≡ Memories.settledPart d ⌝ }
+{
+    match d {
+        Decoded::Settled(a) => a,
+        Decoded::Unsettled => Attributes {
+            memory: MemoryType::Device(DeviceType::NGnRnE),
+            shareability: Shareability::OuterShareable,
+        },
+    }
 }
 
 // With stage 1 off: by HCR_EL2.DC, by whether the access is a fetch, and by SCTLR_EL1.I.
