@@ -39,6 +39,30 @@ pub enum Entry {
     Unsettled,
 }
 
+// Words that a walk goes by at each level, worked out of a geometry once.
+pub struct Masks {
+    // An address from here on is beyond the output size.
+    pub limit: u64,
+    // A block with the most levels below it and its contiguous bit set is unsettled.
+    pub unsettled: bool,
+    // Of an index into a table.
+    pub index: u64,
+    // Of a table's address.
+    pub table: u64,
+}
+
+// Where a walk goes from an entry: down to a table, to its end at a leaf, or to a fault; without contents, so that nothing is built on
+// the way.
+pub enum Turn {
+    Down,
+    Leaf,
+    Translation,
+    AddressSize,
+    AccessFlag,
+    Permission,
+    Unsettled,
+}
+
 // What the tables on the way to an entry of stage 1 impose.
 pub struct Inherited {
     pub readonly: bool,
