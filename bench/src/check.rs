@@ -1,10 +1,13 @@
-//! Before anything is timed: all three must say the same.
-use crate::straight::Walker;
+//! Before anything is timed: all four must say the same.
+use crate::batch::Batch;
+use crate::question;
 use crate::straight::LOG;
 use crate::workloads::{Workload, BATCH};
+use calls::{Capture, Question, Words};
 
-/// One address in so many is put to the proved question too.
-const SAMPLE: usize = 16;
+/// One address in so many is put to the proved question too. Odd, or all of the sample could be of the eighth that lies beyond the
+/// input size in the workload of faults.
+const SAMPLE: usize = 15;
 
 /// What was found to agree: the mean of reads, and the share of translated addresses.
 pub struct Agreed {
@@ -12,55 +15,57 @@ pub struct Agreed {
     pub translated: f64,
 }
 
-/// The straight walk against the proved batch for all addresses, and against the proved question on a sample.
+/// Both batches and the Rust question for all addresses, and both questions on a sample.
 pub fn agree(workload: &Workload) -> Result<Agreed, String> {
-    let walker = Walker::new(&workload.question, workload.capture());
+    let batch = Batch::new(&workload.question, workload.capture());
     let (mut reads, mut translated, mut asked) = (0, 0, 0);
     for addresses in &workload.batches {
-        batch_agrees(workload, &walker, addresses)?;
-        for (n, address) in addresses.iter().enumerate() {
-            let mut log = [0; LOG];
-            let answer = walker.translate(*address, &mut log);
-            if n % SAMPLE == 0 {
-                question_agrees(workload, &walker, *address)?;
+        let answers = batches_agree(workload, &batch, addresses)?;
+        for (n, (address, answer)) in addresses.iter().zip(answers).enumerate() {
+            let words = question::ask(&workload.question, workload.capture(), *address, &mut [0; LOG]);
+            let said = (words.number, if words.number == 0 { words.address } else { 0 });
+            if said != answer {
+                return Err(format!("{address:#x}: the Rust question says {said:x?}, the Rust batch {answer:x?}"));
             }
-            reads += answer.reads;
-            translated += (answer.number == 0) as usize;
+            if n % SAMPLE == 0 {
+                questions_agree(&workload.question, workload.capture(), *address, LOG)?;
+            }
+            reads += words.reads;
+            translated += (words.number == 0) as u64;
             asked += 1;
         }
     }
     Ok(Agreed { reads: reads as f64 / asked as f64, translated: translated as f64 / asked as f64 })
 }
 
-fn batch_agrees(workload: &Workload, walker: &Walker, addresses: &[u64]) -> Result<(), String> {
+/// Number and output of each address, if both batches say the same.
+fn batches_agree(workload: &Workload, batch: &Batch, addresses: &[u64]) -> Result<Vec<(u64, u64)>, String> {
     // Filled with what no answer holds, so that an entry that is not written is seen.
-    let mut straight = (vec![u64::MAX; BATCH], vec![u64::MAX; BATCH]);
-    let mut batch = straight.clone();
-    walker.batch(addresses, &mut straight.0, &mut straight.1, &mut [0; LOG]);
-    let words = calls::batch(&workload.question, workload.capture(), addresses, &mut batch.0, &mut batch.1);
+    let mut ours = (vec![u64::MAX; BATCH], vec![u64::MAX; BATCH]);
+    let mut theirs = ours.clone();
+    batch.run(addresses, &mut ours.1, &mut ours.0, &mut [0; LOG]);
+    let words = calls::batch(&workload.question, workload.capture(), addresses, &mut theirs.1, &mut theirs.0);
     if words.number != 0 || words.asked != addresses.len() as u64 {
         return Err(format!("the proved batch answers {} and asked {}", words.number, words.asked));
     }
-    for (n, address) in addresses.iter().enumerate() {
-        let (ours, theirs) = ((straight.1[n], straight.0[n]), (batch.1[n], batch.0[n]));
-        if ours != theirs {
-            return Err(format!("{address:#x}: Rust says {} and {:#x}, the proved batch {} and {:#x}", ours.0, ours.1, theirs.0, theirs.1));
+    let ours: Vec<(u64, u64)> = ours.0.into_iter().zip(ours.1).collect();
+    for ((address, ours), theirs) in addresses.iter().zip(&ours).zip(theirs.0.into_iter().zip(theirs.1)) {
+        if *ours != theirs {
+            return Err(format!("{address:#x}: the Rust batch says {ours:x?}, the proved batch {theirs:x?}"));
         }
     }
-    Ok(())
+    Ok(ours)
 }
 
-/// Number, output address, count and the whole log.
-fn question_agrees(workload: &Workload, walker: &Walker, address: u64) -> Result<(), String> {
-    let (mut ours, mut theirs) = ([0; LOG], [0; LOG]);
-    let answer = walker.translate(address, &mut ours);
-    let words = calls::ask(&workload.question, workload.capture(), address, &mut theirs);
-    let output = if words.number == 0 { words.address } else { 0 };
-    if (answer.number, answer.output, answer.reads as u64) != (words.number, output, words.reads) || ours != theirs {
+/// The answer, if both questions give the same with all that it carries, and leave the same in a log of so many words.
+pub fn questions_agree(q: &Question, capture: Capture, address: u64, words: usize) -> Result<Words, String> {
+    // Filled with what no descriptor lies at, so that a word that is to be kept is seen to be.
+    let (mut ours, mut theirs) = (vec![u64::MAX; words], vec![u64::MAX; words]);
+    let (said, proved) = (question::ask(q, capture, address, &mut ours), calls::ask(q, capture, address, &mut theirs));
+    if said != proved || ours != theirs {
         return Err(format!(
-            "{address:#x}: Rust says {} and {:#x} after {} reads, the proved question {} and {output:#x} after {}, or the logs differ",
-            answer.number, answer.output, answer.reads, words.number, words.reads
+            "{address:#x}: the Rust question says {said:x?}, log {ours:x?}, the proved question {proved:x?}, log {theirs:x?}"
         ));
     }
-    Ok(())
+    Ok(said)
 }

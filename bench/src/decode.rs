@@ -1,5 +1,5 @@
-//! What the straightforward walk goes by: the registers, decoded once for a whole batch. Settings must be accepted ones.
-use crate::straight::Stop;
+//! What the straightforward walk goes by: registers, decoded. Settings must be accepted ones.
+use crate::straight::Cause;
 use calls::Question;
 
 /// The output sizes by IPS or PS.
@@ -18,33 +18,19 @@ pub struct Root {
     pub contiguous_open: bool,
 }
 
-/// One half of stage 1's input addresses: the bits that are tested, and what they must be.
-pub struct Half {
+/// Stage 1 for one half of the input addresses: the address bits that are tested, and what they must be.
+pub struct Stage1 {
     pub tested: u64,
     pub wanted: u64,
-    /// The root, or the stop that every walk of this half meets.
-    pub root: Result<Root, Stop>,
-}
-
-/// What of a MAIR_EL1 byte decides an answer's number.
-#[derive(Clone, Copy)]
-pub enum Memory {
-    Device,
-    Normal,
-    Unsettled,
-}
-
-pub struct Stage1 {
-    pub low: Half,
-    pub high: Half,
-    pub mair: [Memory; 8],
+    /// The root, or what stops every walk of this half.
+    pub root: Result<Root, Cause>,
+    pub mair: [u8; 8],
     pub write_implies_xn: bool,
 }
 
-/// Stage 1 if it is off: the address bits that must be 0, by bit 55.
+/// Stage 1 if it is off, for one half: the address bits that must be 0.
 pub struct Flat {
-    pub low: u64,
-    pub high: u64,
+    pub zeros: u64,
     pub device: bool,
 }
 
@@ -56,12 +42,12 @@ pub enum First {
 pub struct Stage2 {
     /// 2 to the input size.
     pub inputs: u64,
-    /// The root, or the stop that every walk meets.
-    pub root: Result<Root, Stop>,
+    /// The root, or what stops every walk.
+    pub root: Result<Root, Cause>,
     pub protected_walk: bool,
 }
 
-fn bit(word: u64, at: u32) -> bool {
+pub fn bit(word: u64, at: u32) -> bool {
     word >> at & 1 == 1
 }
 
@@ -80,10 +66,10 @@ fn top(q: &Question, high: bool) -> u64 {
 }
 
 /// The root of a walk from a base register. Bits of the base under the root's size are ignored.
-fn root(base: u64, size: u64, output_size: u64, shift: u64) -> Result<Root, Stop> {
+fn root(base: u64, size: u64, output_size: u64, shift: u64) -> Result<Root, Cause> {
     let address = base & ones(47, 0);
     if address >> output_size != 0 {
-        return Err(Stop::AddressSize);
+        return Err(Cause::AddressSize);
     }
     let bits = size - shift;
     Ok(Root {
@@ -96,11 +82,12 @@ fn root(base: u64, size: u64, output_size: u64, shift: u64) -> Result<Root, Stop
 }
 
 /// One half, with its own base register. A disabled half's size is not looked at: the settings do not test it.
-fn half(q: &Question, high: bool) -> Half {
+fn stage1(q: &Question, high: bool) -> Stage1 {
+    let (mair, write_implies_xn) = (q.mair_el1.to_le_bytes(), bit(q.sctlr_el1, 19));
     let (base, field, disabled) =
         if high { (q.ttbr1_el1, q.tcr_el1 >> 16 & 63, bit(q.tcr_el1, 23)) } else { (q.ttbr0_el1, q.tcr_el1 & 63, bit(q.tcr_el1, 7)) };
     if disabled {
-        return Half { tested: 0, wanted: 0, root: Err(Stop::Translation) };
+        return Stage1 { tested: 0, wanted: 0, root: Err(Cause::Translation), mair, write_implies_xn };
     }
     let size = 64 - field;
     let shift = match size {
@@ -110,56 +97,44 @@ fn half(q: &Question, high: bool) -> Half {
     };
     let tested = ones(top(q, high), size);
     let wanted = if high { tested } else { 0 };
-    Half { tested, wanted, root: root(base, size, SIZES[(q.tcr_el1 >> 32 & 7) as usize], shift) }
-}
-
-fn memory(byte: u64) -> Memory {
-    match (byte >> 4, byte & 15) {
-        (0, 0 | 4 | 8 | 12) => Memory::Device,
-        (0, _) | (_, 0) => Memory::Unsettled,
-        _ => Memory::Normal,
-    }
-}
-
-fn mair(register: u64) -> [Memory; 8] {
-    let mut all = [Memory::Unsettled; 8];
-    for (i, one) in all.iter_mut().enumerate() {
-        *one = memory(register >> (8 * i) & 0xff);
-    }
-    all
+    Stage1 { tested, wanted, root: root(base, size, SIZES[(q.tcr_el1 >> 32 & 7) as usize], shift), mair, write_implies_xn }
 }
 
 /// Stage 1 is on with SCTLR_EL1.M, unless HCR_EL2.DC is set.
-pub fn first(q: &Question) -> First {
-    let default_cacheable = bit(q.hcr_el2, 12);
-    if bit(q.sctlr_el1, 0) && !default_cacheable {
-        return First::On(Stage1 {
-            low: half(q, false),
-            high: half(q, true),
-            mair: mair(q.mair_el1),
-            write_implies_xn: bit(q.sctlr_el1, 19),
-        });
+pub fn stage1_on(q: &Question) -> bool {
+    bit(q.sctlr_el1, 0) && !bit(q.hcr_el2, 12)
+}
+
+/// Stage 2 is on with HCR_EL2.VM or HCR_EL2.DC.
+pub fn stage2_on(q: &Question) -> bool {
+    bit(q.hcr_el2, 0) || bit(q.hcr_el2, 12)
+}
+
+/// Stage 1 for the addresses whose bit 55 is as `high` says: one that the top bit would put into the other half is a translation
+/// fault in either.
+pub fn first(q: &Question, high: bool) -> First {
+    if stage1_on(q) {
+        First::On(stage1(q, high))
+    } else {
+        First::Off(Flat { zeros: ones(top(q, high), q.pamax), device: !bit(q.hcr_el2, 12) && q.kind != 2 })
     }
-    let must_be_zero = |high| ones(top(q, high), q.pamax);
-    First::Off(Flat { low: must_be_zero(false), high: must_be_zero(true), device: !default_cacheable && q.kind != 2 })
 }
 
 /// The root of stage 2, whose start level and size check are signed numbers.
-fn root2(q: &Question, size: u64) -> Result<Root, Stop> {
+fn root2(q: &Question, size: u64) -> Result<Root, Cause> {
     let level = 2 - (q.vtcr_el2 >> 6 & 3) as i64;
     if level < 0 || level == 0 && q.pamax <= 42 {
-        return Err(Stop::Translation);
+        return Err(Cause::Translation);
     }
     let shift = 12 + 9 * (3 - level);
     match size as i64 - shift {
         1..=13 => root(q.vttbr_el2, size, SIZES[(q.vtcr_el2 >> 16 & 7) as usize], shift as u64),
-        _ => Err(Stop::Translation),
+        _ => Err(Cause::Translation),
     }
 }
 
-/// Stage 2 is on with HCR_EL2.VM or HCR_EL2.DC.
 pub fn second(q: &Question) -> Option<Stage2> {
-    if !bit(q.hcr_el2, 0) && !bit(q.hcr_el2, 12) {
+    if !stage2_on(q) {
         return None;
     }
     let size = 64 - (q.vtcr_el2 & 63);

@@ -2,12 +2,18 @@
 //!
 //!     bench [--quick] [--rounds N]
 //!
-//! All three (the proved batch, the proved question called for each address, the Rust walk) must first give the same answers.
-//! Then they are timed in one run, and ratios of median times are printed. Status 1 if answers differ, 2 for wrong arguments.
+//! All four ways (the proved batch and one in Rust, the proved question and one in Rust called for each address) must first give
+//! the same answers. Then they are timed in one run, and ratios of median times are printed. Status 1 if answers differ, 2 for wrong
+//! arguments.
+mod attributes;
+mod batch;
 mod check;
 mod decode;
-mod proved;
+mod one_by_one;
+mod question;
 mod random;
+mod refusals;
+mod refused;
 mod straight;
 mod tables;
 mod timing;
@@ -17,8 +23,8 @@ use std::process::exit;
 use workloads::BATCH;
 
 const SEED: u64 = 0x5eed;
-/// Enough that each of the three takes every batch thirty times, and what other programs do meanwhile evens out.
-const ROUNDS: usize = 540;
+/// Enough that each way takes every batch thirty times, and what other programs do meanwhile evens out.
+const ROUNDS: usize = 600;
 const QUICK_ROUNDS: usize = 15;
 
 struct Arguments {
@@ -44,28 +50,35 @@ fn arguments() -> Arguments {
     Arguments { quick, rounds: rounds.unwrap_or(if quick { QUICK_ROUNDS } else { ROUNDS }) }
 }
 
+fn differ(name: &str, difference: String) -> ! {
+    eprintln!("{name}: answers differ. {difference}");
+    exit(1);
+}
+
 fn main() {
     let Arguments { quick, rounds } = arguments();
-    println!("Ratios of median times of {rounds} interleaved rounds, batches of {BATCH} addresses; Rust is 1. Above 1 is slower.");
-    println!("Logs are not cleared between addresses. The last column is the Rust walk here and now, and promises nothing.");
+    refused::agree().unwrap_or_else(|difference| differ("refused questions", difference));
+    println!("Ratios of median times of {rounds} interleaved rounds, batches of {BATCH} addresses. Above 1 the proved one is slower.");
+    println!("Logs are not cleared between addresses. The last two columns are Rust here and now, and promise nothing.");
     println!();
-    println!("| workload | reads | translated | proved batch | proved question | Rust, ns an address |");
-    println!("|---|---|---|---|---|---|");
+    println!(
+        "| workload | reads | translated | proved batch / Rust batch | proved question / Rust question \
+         | Rust batch, ns an address | Rust question, ns an address |"
+    );
+    println!("|---|---|---|---|---|---|---|");
     for plan in workloads::plans(quick) {
         let workload = workloads::build(&plan, SEED);
-        let agreed = check::agree(&workload).unwrap_or_else(|difference| {
-            eprintln!("{}: answers differ. {difference}", plan.name);
-            exit(1);
-        });
+        let agreed = check::agree(&workload).unwrap_or_else(|difference| differ(plan.name, difference));
         let medians = timing::measure(&workload, rounds);
         println!(
-            "| {} | {:.1} | {:.0} % | {:.2} | {:.2} | {:.0} |",
+            "| {} | {:.1} | {:.0} % | {:.2} | {:.2} | {:.0} | {:.0} |",
             plan.name,
             agreed.reads,
             100.0 * agreed.translated,
-            medians.batch / medians.straight,
-            medians.question / medians.straight,
-            medians.straight / BATCH as f64
+            medians.proved_batch / medians.rust_batch,
+            medians.proved_question / medians.rust_question,
+            medians.rust_batch / BATCH as f64,
+            medians.rust_question / BATCH as f64
         );
     }
 }

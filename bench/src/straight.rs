@@ -1,14 +1,17 @@
 //! A straightforward table walk in Rust, by the rules of document 01: what the proved walk is measured against.
-//! Registers are decoded once for a batch, slices are safe, each stage is one loop over its levels.
-use crate::decode::{first, second, First, Flat, Half, Memory, Root, Stage1, Stage2};
+//! Slices are safe, each stage is one loop over its levels. The batch and the question share it.
+use crate::attributes::{reserved_shareability, MAIR, NORMAL, UNSETTLED};
+use crate::decode::{bit, second, First, Flat, Root, Stage1, Stage2};
 use calls::{Capture, Question};
 
 /// Words of a log, as many as one address may need.
 pub const LOG: usize = 24;
 
 /// Why there is no output address, by its answer's number.
-#[derive(Clone, Copy)]
-pub enum Stop {
+// As wide as the addresses in whose place it stands, so that such a place is stored and loaded whole.
+#[derive(Clone, Copy, PartialEq, Eq)]
+#[repr(u64)]
+pub enum Cause {
     Translation = 1,
     AddressSize = 2,
     AccessFlag = 3,
@@ -18,11 +21,27 @@ pub enum Stop {
     Unsettled = 7,
 }
 
-/// An answer's number, the output address (0 if there is none), and how many descriptors were read.
-pub struct Answer {
-    pub number: u64,
-    pub output: u64,
-    pub reads: usize,
+/// What a walk is of.
+#[derive(Clone, Copy, PartialEq, Eq)]
+pub enum Place {
+    Stage1,
+    Stage2,
+    /// Stage 2, for a descriptor of stage 1.
+    OnWalk,
+}
+
+/// What is noted of a walk beside its output and its log. A shift is the lowest input bit of a level's index, and tells the level.
+pub trait Notes {
+    /// A walk came to this leaf.
+    fn leaf(&mut self, place: Place, descriptor: u64, shift: u32);
+    /// A walk stopped. It is told where the descriptor should lie that is not in the capture, else stage 2's IPA, else 0.
+    fn stop(&mut self, place: Place, shift: u32, at: u64);
+}
+
+/// No notes, and no cost: the walk is compiled without them.
+impl Notes for () {
+    fn leaf(&mut self, _: Place, _: u64, _: u32) {}
+    fn stop(&mut self, _: Place, _: u32, _: u64) {}
 }
 
 #[derive(Clone, Copy, PartialEq, Eq)]
@@ -38,16 +57,16 @@ enum Step {
     Leaf,
 }
 
-/// The log, and how much of it is filled.
-struct Reads<'a> {
-    log: &'a mut [u64; LOG],
-    count: usize,
+/// The log, how much of it is filled, and the notes.
+pub struct Trail<'a, N> {
+    pub log: &'a mut [u64; LOG],
+    pub count: usize,
+    pub notes: N,
 }
 
-/// A capture with decoded registers, ready for any number of addresses.
+/// A capture with decoded registers, but for stage 1's: of those an address needs one half alone.
 pub struct Walker<'a> {
     capture: Capture<'a>,
-    first: First,
     second: Option<Stage2>,
     kind: Kind,
     el0: bool,
@@ -58,32 +77,35 @@ pub struct Walker<'a> {
 const ADDRESS: u64 = (1 << 48) - 1;
 const PAGE: u32 = 12;
 const STRIDE: u32 = 9;
+/// The shift of level 0, which is also the level of what happens before any read.
+pub const TOP: u32 = PAGE + 3 * STRIDE;
 
-fn bit(word: u64, at: u32) -> bool {
-    word >> at & 1 == 1
+/// The level whose index has this lowest bit.
+pub fn level(shift: u32) -> u64 {
+    ((TOP - shift) / STRIDE) as u64
 }
 
 /// The tests of a descriptor, in their order.
-fn step(descriptor: u64, shift: u32, root: &Root) -> Result<Step, Stop> {
+fn step(descriptor: u64, shift: u32, root: &Root) -> Result<Step, Cause> {
     let address = descriptor & ADDRESS;
     match descriptor & 3 {
         3 if shift > PAGE => {
-            return if address >= root.limit { Err(Stop::AddressSize) } else { Ok(Step::Table(address >> PAGE << PAGE)) };
+            return if address >= root.limit { Err(Cause::AddressSize) } else { Ok(Step::Table(address >> PAGE << PAGE)) };
         }
         3 => {}
         1 if shift == 21 => {}
         1 if shift == 30 => {
             if root.contiguous_open && bit(descriptor, 52) {
-                return Err(Stop::Unsettled);
+                return Err(Cause::Unsettled);
             }
         }
-        _ => return Err(Stop::Translation),
+        _ => return Err(Cause::Translation),
     }
     if address >= root.limit {
-        return Err(Stop::AddressSize);
+        return Err(Cause::AddressSize);
     }
     if !bit(descriptor, 10) {
-        return Err(Stop::AccessFlag);
+        return Err(Cause::AccessFlag);
     }
     Ok(Step::Leaf)
 }
@@ -94,9 +116,12 @@ fn output(descriptor: u64, shift: u32, input: u64) -> u64 {
     descriptor & ADDRESS & !low | input & low
 }
 
-/// Normal memory's SH of 1 is reserved.
-fn reserved_shareability(descriptor: u64) -> bool {
-    descriptor >> 8 & 3 == 1
+impl<N: Notes> Trail<'_, N> {
+    /// The cause, of which a note is made.
+    fn stop(&mut self, cause: Cause, place: Place, shift: u32, at: u64) -> Cause {
+        self.notes.stop(place, shift, at);
+        cause
+    }
 }
 
 impl<'a> Walker<'a> {
@@ -107,81 +132,58 @@ impl<'a> Walker<'a> {
             1 => Kind::Write,
             _ => Kind::Fetch,
         };
-        Walker { capture, first: first(q), second: second(q), kind, el0: q.el == 0, size: q.size }
+        Walker { capture, second: second(q), kind, el0: q.el == 0, size: q.size }
     }
 
-    /// Answers all addresses. The log holds what the last ones left: it is not cleared between them.
-    // Never inlined, so that the log's stores cannot be left out where nobody reads it.
-    #[inline(never)]
-    pub fn batch(&self, addresses: &[u64], outputs: &mut [u64], numbers: &mut [u64], log: &mut [u64; LOG]) {
-        for ((address, output), number) in addresses.iter().zip(outputs).zip(numbers) {
-            let answer = self.translate(*address, log);
-            *output = answer.output;
-            *number = answer.number;
-        }
-    }
-
-    /// Answers one address.
-    #[inline]
-    pub fn translate(&self, address: u64, log: &mut [u64; LOG]) -> Answer {
-        let mut reads = Reads { log, count: 0 };
-        match self.access(address, &mut reads) {
-            Ok(output) => Answer { number: 0, output, reads: reads.count },
-            Err(stop) => Answer { number: stop as u64, output: 0, reads: reads.count },
-        }
-    }
-
-    fn access(&self, address: u64, reads: &mut Reads) -> Result<u64, Stop> {
-        let ipa = match &self.first {
-            First::On(stage1) => self.stage1(stage1, address, reads)?,
-            First::Off(flat) => self.stage1_off(flat, address)?,
+    /// Where an address leads, by stage 1 of its half and stage 2.
+    pub fn access(&self, first: &First, address: u64, trail: &mut Trail<impl Notes>) -> Result<u64, Cause> {
+        let ipa = match first {
+            First::On(stage1) => self.stage1(stage1, address, trail)?,
+            First::Off(flat) => self.stage1_off(flat, address, trail)?,
         };
         match &self.second {
-            Some(stage2) => self.stage2(stage2, address, ipa, false, reads),
+            Some(stage2) => self.stage2(stage2, address, ipa, Place::Stage2, trail),
             None => Ok(ipa),
         }
     }
 
     /// A descriptor, if all its bytes are in the capture.
-    fn read(&self, at: u64, reads: &mut Reads) -> Result<u64, Stop> {
+    fn read(&self, at: u64, trail: &mut Trail<impl Notes>) -> Option<u64> {
         let offset = at.wrapping_sub(self.capture.base) as usize;
-        let eight = self.capture.bytes.get(offset..).and_then(|rest| rest.get(..8)).ok_or(Stop::NotCaptured)?;
-        reads.log[reads.count] = at;
-        reads.count += 1;
+        let eight = self.capture.bytes.get(offset..)?.get(..8)?;
+        trail.log[trail.count] = at;
+        trail.count += 1;
         // Cannot fail, and costs nothing: there are eight bytes.
-        Ok(u64::from_le_bytes(eight.try_into().map_err(|_| Stop::NotCaptured)?))
+        Some(u64::from_le_bytes(eight.try_into().ok()?))
     }
 
     fn misaligned(&self, address: u64) -> bool {
         self.kind != Kind::Fetch && address & (self.size - 1) != 0
     }
 
-    /// Bit 55 decides the half: an address that the top bit would put elsewhere is a translation fault in either.
-    fn stage1(&self, stage1: &Stage1, address: u64, reads: &mut Reads) -> Result<u64, Stop> {
-        let half: &Half = if bit(address, 55) { &stage1.high } else { &stage1.low };
-        if address & half.tested != half.wanted {
-            return Err(Stop::Translation);
+    fn stage1(&self, stage1: &Stage1, address: u64, trail: &mut Trail<impl Notes>) -> Result<u64, Cause> {
+        let place = Place::Stage1;
+        if address & stage1.tested != stage1.wanted {
+            return Err(trail.stop(Cause::Translation, place, TOP, 0));
         }
-        let root = match &half.root {
-            Ok(root) => root,
-            Err(stop) => return Err(*stop),
-        };
+        let root = stage1.root.as_ref().map_err(|cause| trail.stop(*cause, place, TOP, 0))?;
         let mut shift = root.shift;
         let mut at = root.table + 8 * (address >> shift & root.index);
         let mut tables = 0;
         loop {
             if let Some(stage2) = &self.second {
-                at = self.stage2(stage2, address, at, true, reads)?;
+                at = self.stage2(stage2, address, at, Place::OnWalk, trail)?;
             }
-            let descriptor = self.read(at, reads)?;
-            match step(descriptor, shift, root)? {
+            let descriptor = self.read(at, trail).ok_or_else(|| trail.stop(Cause::NotCaptured, place, shift, at))?;
+            match step(descriptor, shift, root).map_err(|cause| trail.stop(cause, place, shift, 0))? {
                 Step::Table(table) => {
                     tables |= descriptor;
                     shift -= STRIDE;
                     at = table + 8 * (address >> shift & 511);
                 }
                 Step::Leaf => {
-                    self.check1(stage1, address, descriptor, tables)?;
+                    self.check1(stage1, address, descriptor, tables).map_err(|cause| trail.stop(cause, place, shift, 0))?;
+                    trail.notes.leaf(place, descriptor, shift);
                     return Ok(output(descriptor, shift, address));
                 }
             }
@@ -189,27 +191,26 @@ impl<'a> Walker<'a> {
     }
 
     /// Stage 1's attributes, alignment, permission, in that order.
-    fn check1(&self, stage1: &Stage1, address: u64, descriptor: u64, tables: u64) -> Result<(), Stop> {
-        match stage1.mair[(descriptor >> 2 & 7) as usize] {
-            Memory::Unsettled => return Err(Stop::Unsettled),
-            Memory::Normal => {
-                if reserved_shareability(descriptor) {
-                    return Err(Stop::Unsettled);
-                }
+    // Inlined, as it was while the batch alone called it.
+    #[inline]
+    fn check1(&self, stage1: &Stage1, address: u64, descriptor: u64, tables: u64) -> Result<(), Cause> {
+        let memory = MAIR[stage1.mair[(descriptor >> 2 & 7) as usize] as usize];
+        if memory >= NORMAL {
+            if memory == UNSETTLED || reserved_shareability(descriptor) {
+                return Err(Cause::Unsettled);
             }
-            Memory::Device => {
-                if self.misaligned(address) {
-                    return Err(Stop::Alignment);
-                }
-                if self.kind == Kind::Fetch {
-                    return Err(Stop::Permission);
-                }
+        } else {
+            if self.misaligned(address) {
+                return Err(Cause::Alignment);
+            }
+            if self.kind == Kind::Fetch {
+                return Err(Cause::Permission);
             }
         }
         if self.permits1(stage1, descriptor, tables) {
             Ok(())
         } else {
-            Err(Stop::Permission)
+            Err(Cause::Permission)
         }
     }
 
@@ -228,35 +229,34 @@ impl<'a> Walker<'a> {
         }
     }
 
-    fn stage1_off(&self, flat: &Flat, address: u64) -> Result<u64, Stop> {
-        if address & (if bit(address, 55) { flat.high } else { flat.low }) != 0 {
-            return Err(Stop::AddressSize);
+    fn stage1_off(&self, flat: &Flat, address: u64, trail: &mut Trail<impl Notes>) -> Result<u64, Cause> {
+        if address & flat.zeros != 0 {
+            return Err(trail.stop(Cause::AddressSize, Place::Stage1, TOP, 0));
         }
         if flat.device && self.misaligned(address) {
-            return Err(Stop::Alignment);
+            return Err(trail.stop(Cause::Alignment, Place::Stage1, TOP, 0));
         }
         Ok(address & ADDRESS)
     }
 
-    fn stage2(&self, stage2: &Stage2, address: u64, ipa: u64, on_walk: bool, reads: &mut Reads) -> Result<u64, Stop> {
+    fn stage2(&self, stage2: &Stage2, address: u64, ipa: u64, place: Place, trail: &mut Trail<impl Notes>) -> Result<u64, Cause> {
         if ipa >= stage2.inputs {
-            return Err(Stop::Translation);
+            return Err(trail.stop(Cause::Translation, place, TOP, ipa));
         }
-        let root = match &stage2.root {
-            Ok(root) => root,
-            Err(stop) => return Err(*stop),
-        };
+        let root = stage2.root.as_ref().map_err(|cause| trail.stop(*cause, place, TOP, ipa))?;
         let mut shift = root.shift;
         let mut at = root.table + 8 * (ipa >> shift);
         loop {
-            let descriptor = self.read(at, reads)?;
-            match step(descriptor, shift, root)? {
+            let descriptor = self.read(at, trail).ok_or_else(|| trail.stop(Cause::NotCaptured, place, shift, at))?;
+            match step(descriptor, shift, root).map_err(|cause| trail.stop(cause, place, shift, ipa))? {
                 Step::Table(table) => {
                     shift -= STRIDE;
                     at = table + 8 * (ipa >> shift & 511);
                 }
                 Step::Leaf => {
-                    self.check2(stage2, address, descriptor, on_walk)?;
+                    let on_walk = place == Place::OnWalk;
+                    self.check2(stage2, address, descriptor, on_walk).map_err(|cause| trail.stop(cause, place, shift, ipa))?;
+                    trail.notes.leaf(place, descriptor, shift);
                     return Ok(output(descriptor, shift, ipa));
                 }
             }
@@ -264,16 +264,16 @@ impl<'a> Walker<'a> {
     }
 
     /// Stage 2's attributes, alignment, permission, in that order. On a stage 1 walk the access is a read, and never misaligned.
-    fn check2(&self, stage2: &Stage2, address: u64, descriptor: u64, on_walk: bool) -> Result<(), Stop> {
+    fn check2(&self, stage2: &Stage2, address: u64, descriptor: u64, on_walk: bool) -> Result<(), Cause> {
         if descriptor >> 4 & 3 == 0 {
             if !on_walk && self.misaligned(address) {
-                return Err(Stop::Alignment);
+                return Err(Cause::Alignment);
             }
             if self.kind == Kind::Fetch || on_walk && stage2.protected_walk {
-                return Err(Stop::Permission);
+                return Err(Cause::Permission);
             }
         } else if descriptor >> 2 & 3 == 0 || reserved_shareability(descriptor) {
-            return Err(Stop::Unsettled);
+            return Err(Cause::Unsettled);
         }
         let permitted = match if on_walk { Kind::Read } else { self.kind } {
             Kind::Read => bit(descriptor, 6),
@@ -283,7 +283,7 @@ impl<'a> Walker<'a> {
         if permitted {
             Ok(())
         } else {
-            Err(Stop::Permission)
+            Err(Cause::Permission)
         }
     }
 }

@@ -1,18 +1,22 @@
-//! Times of a workload's batches through all three, in interleaved rounds.
-use crate::proved;
-use crate::straight::Walker;
+//! Times of a workload's batches through all four ways, in interleaved rounds.
+use crate::batch::Batch;
+use crate::one_by_one::one_by_one;
+use crate::question;
 use crate::straight::LOG;
 use crate::workloads::{Workload, BATCH, BATCHES};
 use std::time::Instant;
 
-/// Rounds that are not counted. In them each of the three meets every batch.
+const WAYS: usize = 4;
+
+/// Rounds that are not counted. In them each way meets every batch.
 const WARM_UP: usize = BATCHES;
 
 /// The median time of a batch, in nanoseconds.
 pub struct Medians {
-    pub straight: f64,
-    pub batch: f64,
-    pub question: f64,
+    pub rust_batch: f64,
+    pub proved_batch: f64,
+    pub rust_question: f64,
+    pub proved_question: f64,
 }
 
 fn median(mut times: Vec<f64>) -> f64 {
@@ -20,43 +24,44 @@ fn median(mut times: Vec<f64>) -> f64 {
     times[times.len() / 2]
 }
 
-/// Lists and log that all three are lent.
+/// Lists and log that all ways are lent.
 struct Lent {
     outputs: Vec<u64>,
     numbers: Vec<u64>,
     log: [u64; LOG],
 }
 
-/// Runs one batch through one of the three, and gives the time it took. Decoding the registers is part of it.
-fn timed(which: usize, workload: &Workload, addresses: &[u64], lent: &mut Lent) -> f64 {
+/// Runs one batch through one way, and gives the time it took. Decoding the registers is part of it.
+fn timed(way: usize, workload: &Workload, addresses: &[u64], lent: &mut Lent) -> f64 {
     let (q, capture) = (&workload.question, workload.capture());
     let Lent { outputs, numbers, log } = lent;
     let start = Instant::now();
-    match which {
-        0 => Walker::new(q, capture).batch(addresses, outputs, numbers, log),
+    match way {
+        0 => Batch::new(q, capture).run(addresses, outputs, numbers, log),
         1 => {
             calls::batch(q, capture, addresses, outputs, numbers);
         }
-        _ => proved::one_by_one(q, capture, addresses, outputs, numbers, log),
+        2 => one_by_one(question::ask, q, capture, addresses, outputs, numbers, log),
+        _ => one_by_one(calls::ask, q, capture, addresses, outputs, numbers, log),
     }
     start.elapsed().as_nanos() as f64
 }
 
-/// In each round every one of the three takes a batch, in turning order. Each takes another batch, and takes all in turn, so that
-/// none finds in the caches what the one before it has just read.
+/// In each round every way takes a batch, in turning order. Each takes another batch, and takes all in turn, so that none finds in
+/// the caches what the one before it has just read.
 pub fn measure(workload: &Workload, rounds: usize) -> Medians {
     let mut lent = Lent { outputs: vec![0; BATCH], numbers: vec![0; BATCH], log: [0; LOG] };
-    let mut times = [Vec::new(), Vec::new(), Vec::new()];
+    let mut times: [Vec<f64>; WAYS] = Default::default();
     for round in 0..WARM_UP + rounds {
-        for turn in 0..3 {
-            let which = (round + turn) % 3;
-            let addresses = &workload.batches[(round + which * BATCHES / 3) % BATCHES];
-            let time = timed(which, workload, addresses, &mut lent);
+        for turn in 0..WAYS {
+            let way = (round + turn) % WAYS;
+            let addresses = &workload.batches[(round + way * BATCHES / WAYS) % BATCHES];
+            let time = timed(way, workload, addresses, &mut lent);
             if round >= WARM_UP {
-                times[which].push(time);
+                times[way].push(time);
             }
         }
     }
-    let [straight, batch, question] = times;
-    Medians { straight: median(straight), batch: median(batch), question: median(question) }
+    let [rust_batch, proved_batch, rust_question, proved_question] = times.map(median);
+    Medians { rust_batch, proved_batch, rust_question, proved_question }
 }

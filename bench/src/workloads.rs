@@ -5,8 +5,8 @@ use calls::{Capture, Question};
 
 /// The most addresses that one batch may have.
 pub const BATCH: usize = 4096;
-/// Batches of different addresses, so that no batch is met again soon.
-pub const BATCHES: usize = 18;
+/// Batches of different addresses, so that no batch is met again soon. A multiple of the ways, which are then equally far apart.
+pub const BATCHES: usize = 20;
 
 /// What a workload is built from.
 pub struct Plan {

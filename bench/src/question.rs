@@ -1,0 +1,78 @@
+//! The straightforward walk for one question: what it is refused for is tested, registers are decoded anew, and the answer is whole.
+use crate::attributes::reported;
+use crate::decode::{bit, first};
+use crate::refusals::refusal;
+use crate::straight::{level, Cause, Notes, Place, Trail, Walker, LOG, TOP};
+use calls::{Capture, Question, Words};
+
+#[derive(Clone, Copy)]
+struct Leaf {
+    descriptor: u64,
+    shift: u32,
+}
+
+/// In place of the leaf of a stage that is off, whose level is 0.
+const NO_LEAF: Leaf = Leaf { descriptor: 0, shift: TOP };
+
+/// The leaf that each stage's walk came to last, and where the walk stopped if it did.
+struct Ends {
+    first: Leaf,
+    second: Leaf,
+    place: Place,
+    shift: u32,
+    at: u64,
+}
+
+impl Notes for Ends {
+    fn leaf(&mut self, place: Place, descriptor: u64, shift: u32) {
+        let end = if place == Place::Stage1 { &mut self.first } else { &mut self.second };
+        *end = Leaf { descriptor, shift };
+    }
+
+    fn stop(&mut self, place: Place, shift: u32, at: u64) {
+        (self.place, self.shift, self.at) = (place, shift, at);
+    }
+}
+
+fn translated(q: &Question, address: u64, ends: &Ends, reads: u64) -> Words {
+    let attributes = reported(q, ends.first.descriptor, ends.second.descriptor);
+    Words {
+        address,
+        memory: attributes.memory as u64,
+        shareability: attributes.shareability,
+        level1: level(ends.first.shift),
+        level2: level(ends.second.shift),
+        reads,
+        ..Words::default()
+    }
+}
+
+fn stopped(cause: Cause, ends: &Ends, reads: u64) -> Words {
+    // Faults alone carry the IPA, and an alignment fault carries no level.
+    let (address, ipa, level) = match cause {
+        Cause::NotCaptured => (ends.at, 0, level(ends.shift)),
+        Cause::Unsettled => (0, 0, level(ends.shift)),
+        Cause::Alignment => (0, ends.at, 0),
+        _ => (0, ends.at, level(ends.shift)),
+    };
+    let stage = if ends.place == Place::Stage1 { 1 } else { 2 };
+    Words { number: cause as u64, address, stage, level, onwalk: (ends.place == Place::OnWalk) as u64, ipa, reads, ..Words::default() }
+}
+
+/// Answers one question, in the words of the exported call.
+// Never inlined, so that one call is one question, and the stores of log and answer cannot be left out.
+#[inline(never)]
+pub fn ask(q: &Question, capture: Capture, address: u64, log: &mut [u64]) -> Words {
+    if let Some(words) = refusal(q, capture, log.len()) {
+        return words;
+    }
+    let log = (&mut log[..LOG]).try_into().expect("so many words");
+    let ends = Ends { first: NO_LEAF, second: NO_LEAF, place: Place::Stage1, shift: TOP, at: 0 };
+    let mut trail = Trail { log, count: 0, notes: ends };
+    let walked = Walker::new(q, capture).access(&first(q, bit(address, 55)), address, &mut trail);
+    let (ends, reads) = (&trail.notes, trail.count as u64);
+    match walked {
+        Ok(output) => translated(q, output, ends, reads),
+        Err(cause) => stopped(cause, ends, reads),
+    }
+}
