@@ -1,5 +1,6 @@
 // Accesses by a guest, and which numbers a question may hold.
 ghost use mathlib.Core.Path.{_≡_};
+ghost use mathlib.Core.Bool.{true};
 ghost use Prim.Native.Nat.{_%_};
 ghost use Rattle.access.specs.Access as Accesses;
 
@@ -48,24 +49,28 @@ pub fn listed(kind: u64, el: u64, size: u64) -> bool
     (kind <= 2) & (el <= 1) & listed_size(size)
 }
 
-// What is left of x by n; by zero, x. Each listed size has its own arm: a division by an unknown number costs more than all the rest.
+// What is left of x by a listed size. Each size has its own arm: a division by an unknown number costs more than all the rest.
 fn remainder(x: u64, n: u64) -> u64
+    requires { ⌜ Accesses.listedSize n ≡ true ⌝ }
     ensures { λ r. ⌜ r ≡ x % n ⌝ }
 {
     match n {
-        0 => x,
-        1 => 0,
         2 => x % 2,
         4 => x % 4,
         8 => x % 8,
         16 => x % 16,
-        _ => x % n,
+        _ => 0,
     }
 }
 
 // A data access that is not a multiple of its size.
 pub fn unaligned(a: Access) -> bool
+    requires { ⌜ Accesses.listedSize (a .size) ≡ true ⌝ }
     ensures { λ r. ⌜ r ≡ Accesses.unaligned a ⌝ }
 {
-    !is_fetch(a) & (remainder(a.address, a.size) != 0)
+    if is_fetch(a) {
+        false
+    } else {
+        remainder(a.address, a.size) != 0
+    }
 }

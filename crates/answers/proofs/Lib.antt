@@ -2,3 +2,4 @@ pub mod Refusals
 pub mod Verdicts
 pub mod Counts
 pub mod Framing
+pub mod Entries

@@ -1,11 +1,12 @@
 -- What a verdict says of a call, and of each ground.
 -- Assumes nothing.
-use mathlib.Core.Path.{_≡_, refl, ap}
-use mathlib.Core.Bool.{Bool, true, false}
+use mathlib.Core.Path.{_≡_, refl, sym, ap}
+use mathlib.Core.Bool.{Bool, true, false, true≢false, _&&_}
 use mathlib.Core.List.{List, [], _∷_}
-use Prim.Native.Nat.{ℕ}
+use Prim.Native.Nat.{ℕ, _+_, _^_, _≤_}
 use native.Mathlib.Omega.{arith}
-use borrow.Author.Tests.{eqb-true, not-false}
+use borrow.Author.Tests.{eqb-true, ltb-false, not-false}
+use lib.Dec.{leb}
 use Rattle.bits.specs.Bits.{pick}
 use Rattle.bits.proofs.Tests.{by-pick}
 use Rattle.answers.specs.declared.Refusal.{Refusal}
@@ -13,6 +14,7 @@ use Rattle.answers.specs.declared.Refusal.the-variants.{ShortLog, HighCa
 use Rattle.answers.specs.declared.Verdict.the-variants.{Accepted, Refused}
 use Rattle.registers.specs.declared.El1.{El1}
 use Rattle.registers.specs.declared.El2.{El2}
+use Rattle.access.specs.Access.{listedSize}
 use Rattle.settings.specs.Settings.{settings}
 use Rattle.answers.specs.Refusals.{Ground, refuse, verdict, shared}
 
@@ -62,6 +64,24 @@ isSettings BatchLists = false
 isSettings AuditLists = false
 isSettings NoRoot = false
 
+abbrev isHigh : Refusal → Bool
+isHigh ShortLog = false
+isHigh HighCapture = true
+isHigh (Settings item) = false
+isHigh Unlisted = false
+isHigh BatchLists = false
+isHigh AuditLists = false
+isHigh NoRoot = false
+
+abbrev isUnlisted : Refusal → Bool
+isUnlisted ShortLog = false
+isUnlisted HighCapture = false
+isUnlisted (Settings item) = false
+isUnlisted Unlisted = true
+isUnlisted BatchLists = false
+isUnlisted AuditLists = false
+isUnlisted NoRoot = false
+
 abbrev pub isNoRoot : Refusal → Bool
 isNoRoot ShortLog = false
 isNoRoot HighCapture = false
@@ -83,7 +103,25 @@ none-holds f (g ∷ l) e = by-tests (g .holds) (f (g .refusal)) e (none-holds f 
     by-tests false true h rest = refl
     by-tests false false h rest = rest h
 
--- where what a question and a batch share does not refuse, the settings are accepted
-pub accepted-settings : (base length : ℕ) (r : El2) (g : El1) (kind el size : ℕ) → verdict (shared base length r g kind el size) ≡ Accepted → settings r g ≡ 0
-unfolding holdsFor pick
-accepted-settings base length r g kind el size e = eqb-true _ _ (not-false _ (none-holds isSettings (shared base length r g kind el size) e))
+-- a part of a conjunction
+last-holds : (a b c : Bool) → (a && b && c) ≡ true → c ≡ true
+last-holds true true c e = e
+last-holds true false c e = absurd (true≢false (sym e))
+last-holds false b c e = absurd (true≢false (sym e))
+
+-- where what a question and a batch share does not refuse
+module _ (base length : ℕ) (r : El2) (g : El1) (kind el size : ℕ) (accepted : verdict (shared base length r g kind el size) ≡ Accepted) where
+  -- the settings are accepted
+  pub accepted-settings : settings r g ≡ 0
+  unfolding holdsFor pick
+  accepted-settings = eqb-true _ _ (not-false _ (none-holds isSettings (shared base length r g kind el size) accepted))
+
+  -- the capture ends below 2^64
+  pub accepted-capture : base + length ≤ 2 ^ 64
+  unfolding holdsFor pick
+  accepted-capture = omega (arith, ltb-false (2 ^ 48) (base + length) (none-holds isHigh (shared base length r g kind el size) accepted))
+
+  -- the size is listed
+  pub accepted-size : listedSize size ≡ true
+  unfolding holdsFor pick
+  accepted-size = last-holds (leb kind 2) (leb el 1) (listedSize size) (not-false _ (none-holds isUnlisted (shared base length r g kind el size) accepted))

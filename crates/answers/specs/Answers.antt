@@ -13,6 +13,8 @@ use Rattle.answers.specs.declared.Refusal.{Refusal}
 use Rattle.answers.specs.declared.Refusal.the-variants.{ShortLog, HighCapture, Settings, Unlisted, BatchLists, AuditLists, NoRoot}
 use Rattle.walk.specs.declared.stop.Stop.{Stop}
 use Rattle.walk.specs.declared.stop.Stop.the-variants as S
+use Rattle.walk.specs.declared.end.Ending.{Ending}
+use Rattle.walk.specs.declared.end.Ending.the-variants as E
 use Rattle.stages.specs.declared.both.Translation.{Translation}
 use Rattle.answers.specs.declared.Answer.{Answer}
 use Rattle.answers.specs.declared.Answer.the-variants as A
@@ -49,6 +51,17 @@ number (A.Misaligned s n) = 5
 number (A.Absent m n) = 6
 number (A.Unsettled o n) = 7
 number (A.Refused r) = refusalNumber r
+
+-- the number of an end in plain words, for the contracts of code
+unfoldable pub endingNumber : Ending → ℕ
+endingNumber E.Passed = 0
+endingNumber E.Translation = 1
+endingNumber E.AddressSize = 2
+endingNumber E.AccessFlag = 3
+endingNumber E.Permission = 4
+endingNumber E.Misaligned = 5
+endingNumber E.Absent = 6
+endingNumber E.Unsettled = 7
 
 -- ---- values
 

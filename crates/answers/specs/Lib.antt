@@ -3,3 +3,4 @@ pub mod Refusals
 pub mod Question
 pub mod Counts
 pub mod Framing
+pub mod Entries

@@ -4,13 +4,14 @@ use registers::El1;
 use registers::El2;
 use stages::both::Reached;
 use stages::both::Translation;
+use walk::end::Ending;
 use walk::stop::Fault;
 use walk::stop::Missing;
 use walk::stop::Open;
 use walk::stop::Stage;
 use walk::stop::Stop;
 ghost use mathlib.Core.Path.{_≡_};
-ghost use Rattle.stages.specs.Calls.{arrived};
+ghost use Rattle.stages.specs.Calls.{outcomeOf};
 ghost use Rattle.answers.specs.Answers as Answers;
 ghost use Rattle.answers.specs.Refusals as Refusals;
 
@@ -69,7 +70,7 @@ pub fn shared_verdict(
 
 // The answer of an access after some reads.
 pub fn answered(reached: Reached, reads: u64) -> Answer
-    ensures { λ r. ⌜ r ≡ Answers.answer reads (arrived reached) ⌝ }
+    ensures { λ r. ⌜ r ≡ Answers.answer reads (outcomeOf reached) ⌝ }
 {
     match reached {
         Reached::To(to) => Answer::Translated { to, reads },
@@ -124,5 +125,21 @@ pub fn number(a: Answer) -> u64
         } => 6,
         Answer::Unsettled { open: _, reads: _ } => 7,
         Answer::Refused(refusal) => refusal_number(refusal),
+    }
+}
+
+// The same number, from an end in plain words.
+pub fn ending_number(e: Ending) -> u64
+    ensures { λ n. ⌜ n ≡ Answers.endingNumber e ⌝ }
+{
+    match e {
+        Ending::Passed => 0,
+        Ending::Translation => 1,
+        Ending::AddressSize => 2,
+        Ending::AccessFlag => 3,
+        Ending::Permission => 4,
+        Ending::Misaligned => 5,
+        Ending::Absent => 6,
+        Ending::Unsettled => 7,
     }
 }

@@ -1,4 +1,2 @@
-pub mod Answers
-pub mod Filling
 pub mod Promises
 pub mod Telling

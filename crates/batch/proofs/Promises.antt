@@ -28,9 +28,10 @@ use Rattle.answers.proofs.Refusals.{refuse-refused, refuse-accepted, by-refuse}
 use Rattle.answers.proofs.Verdicts.{long-log, later-accepted}
 use Rattle.answers.proofs.Counts.{is-access, counts}
 use Rattle.answers.proofs.Framing.{framing}
-use Rattle.batch.specs.Batch.{Shared, accessTo, answerOf, answerTo, batchGrounds, BatchTold, answered, batchOver, batch}
+use Rattle.answers.specs.Entries.{answerOf}
+use Rattle.batch.specs.Batch.{Shared, accessTo, answerTo, batchGrounds, BatchTold, answered, batchOver, batch}
 use Rattle.batch.specs.Promises.{Balanced, Promised}
-use Rattle.batch.proofs.Answers.{any-log}
+use Rattle.answers.proofs.Entries.{any-log}
 use Rattle.ledger.proofs.Figures.{Sorted, adds-up}
 
 -- ---- the figures add up

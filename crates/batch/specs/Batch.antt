@@ -9,18 +9,14 @@ use Rattle.reads.specs.Program.{Request}
 use Rattle.reads.specs.declared.Read.{Read}
 use Rattle.access.specs.declared.Access.{Access}
 use Rattle.capture.specs.Capture.{captured}
-use Rattle.walk.specs.declared.stage2.Stage2.{Stage2}
-use Rattle.stages.specs.declared.stage1.Stage1.{Stage1}
-use Rattle.stages.specs.Stages.{access}
 use Rattle.registers.specs.declared.El1.{El1}
 use Rattle.registers.specs.declared.El2.{El2}
 use Rattle.regime.specs.Roots.{stage1, stage2}
 use Rattle.answers.specs.Answers.{number, refusalNumber, itemOf}
 use Rattle.answers.specs.Refusals.{Ground, refuse, shared}
-use Rattle.answers.specs.Question.{told}
+use Rattle.answers.specs.Entries.{answerOf, outputOf}
 use Rattle.answers.specs.declared.Refusal.the-variants.{BatchLists}
 use Rattle.answers.specs.declared.Answer.{Answer}
-use Rattle.answers.specs.declared.Answer.the-variants as A
 use Rattle.ledger.specs.Ledger.{ledger}
 use Rattle.batch.specs.declared.BatchAnswer.{BatchAnswer}
 use Rattle.batch.specs.declared.BatchAnswer.the-variants.{Done, Refused}
@@ -40,21 +36,8 @@ sharing r g kind el size = record { el2 = r; el1 = g; kind = kind; el = el; size
 abbrev pub accessTo : Shared → (address : ℕ) → Access
 accessTo s a = record { address = a; kind = s .kind; el = s .el; size = s .size }
 
--- the answer of an access. A batch has a working log of its own, and no answer depends on what a log holds.
-unfoldable pub answerOf : (Request → Read) → Stage1 → Stage2 → Access → Answer
-answerOf m s1 s2 a = told m [] (access s1 s2 a) .answer
-
 abbrev pub answerTo : (Request → Read) → Shared → (address : ℕ) → Answer
 answerTo m s a = answerOf m (stage1 (s .el2) (s .el1)) (stage2 (s .el2)) (accessTo s a)
-
--- 0 for an address that is not translated
-unfoldable pub outputOf : Answer → ℕ
-outputOf (A.Translated t n) = t .address
-outputOf (A.Fault f n) = 0
-outputOf (A.Misaligned s n) = 0
-outputOf (A.Absent m n) = 0
-outputOf (A.Unsettled o n) = 0
-outputOf (A.Refused r) = 0
 
 -- ---- the batch's own answer: its number and its values. The table of answers has no number for a batch that ran; 0 is ours.
 

@@ -1,6 +1,6 @@
 // Captures: what descriptor lies at a physical address.
 ghost use mathlib.Core.Path.{_≡_};
-ghost use Prim.Native.Nat.{_+_, _*_, _≤_, _<_};
+ghost use Prim.Native.Nat.{_+_, _-_, _*_, _^_, _≤_, _<_};
 ghost use lib.ListN.{length, getD};
 ghost use Rattle.reads.specs.Program.{Reader};
 ghost use Rattle.capture.specs.Capture.{captured, endsHigh};
@@ -31,23 +31,25 @@ fn word(bytes: &[u8], i: usize) -> u64
         + wide(bytes[i + 7]) * 0x100_0000_0000_0000
 }
 
-// The descriptor at a physical address of the bytes that stand at base. Differences and no sums: a sum of base or address may wrap.
+// At how many places of n bytes eight of them start.
+fn places(n: u64) -> u64
+    ensures { λ r. ⌜ r ≡ n - 7 ⌝ }
+{
+    if n < 8 { 0 } else { n - 7 }
+}
+
+// The descriptor at a physical address of the bytes that stand at base. One comparison tells whether all eight are there: below base
+// the difference wraps to 2^64 - base or more, which is no less than the number of bytes.
 pub fn read(bytes: &[u8], base: u64, address: u64) -> Read
+    requires { ⌜ base + length (now bytes) ≤ 2 ^ 64 ⌝ }
     ensures { λ r. ⌜ ((reader : Reader) →
         r ≡ captured base (now (bytes .entry)) (record { reader = reader; address = address })) ⌝ }
 {
-    if base <= address {
-        let at = address - base;
-        let n = bytes.len() as u64;
-        if 8 <= n {
-            if at <= n - 8 {
-                Read::Word(word(bytes, at as usize))
-            } else {
-                Read::Absent
-            }
-        } else {
-            Read::Absent
-        }
+    let n = bytes.len() as u64;
+    let room = places(n);
+    let at = std::num::wrapping_sub_u64(address, base);
+    if at < room {
+        Read::Word(word(bytes, at as usize))
     } else {
         Read::Absent
     }

@@ -1,8 +1,6 @@
-use bits::beyond;
 use bits::bit;
-use bits::lower;
-use bits::upper;
 ghost use mathlib.Core.Path.{_≡_};
+ghost use Prim.Native.Nat.{_<_};
 ghost use Rattle.descriptor.specs.Entry as Entries;
 
 // The sizes that one stage's walk goes by, in bits: the grain size of the 4KB granule is 12.
@@ -95,84 +93,10 @@ pub fn descriptor_type(g: Geometry, n: u64, x: u64) -> DescriptorType
     }
 }
 
-// The contiguous bit is set where Arm leaves open what it does.
-fn contiguous(g: Geometry, n: u64, x: u64) -> bool
-    ensures { λ r. ⌜ r ≡ Entries.contiguous g n x ⌝ }
-{
-    let block = g.block;
-    let inputsize = g.inputsize;
-    let least = g.contiguous;
-    (n == block) & (inputsize < least) & bit(x, 52)
-}
-
-// A table's entry: the next table, or an address beyond the output size.
-fn at_table(g: Geometry, n: u64, x: u64) -> Entry
-    ensures { λ r. ⌜ r ≡ Entries.decodeAs g n x DescriptorType.Table ⌝ }
-{
-    let outputsize = g.outputsize;
-    let grainsize = g.grainsize;
-    if beyond(x, outputsize) {
-        Entry::Fault(FaultKind::AddressSize)
-    } else {
-        Entry::Next(upper(x, grainsize))
-    }
-}
-
-// A page's or a block's entry; bit 10 is its access flag.
-fn at_leaf(g: Geometry, n: u64, x: u64) -> Entry
-    ensures { λ r. ⌜ r ≡ Entries.decodeAs g n x DescriptorType.Leaf ⌝ }
-{
-    let outputsize = g.outputsize;
-    if contiguous(g, n, x) {
-        Entry::Unsettled
-    } else if beyond(x, outputsize) {
-        Entry::Fault(FaultKind::AddressSize)
-    } else if bit(x, 10) {
-        Entry::Final
-    } else {
-        Entry::Fault(FaultKind::AccessFlag)
-    }
-}
-
-// What a walk does at an entry with n levels below it.
-pub fn decode(g: Geometry, n: u64, x: u64) -> Entry
-    ensures { λ r. ⌜ r ≡ Entries.decode g n x ⌝ }
-{
-    let descriptor_type = descriptor_type(g, n, x);
-    match descriptor_type {
-        DescriptorType::Invalid => Entry::Fault(FaultKind::Translation),
-        DescriptorType::Table => at_table(g, n, x),
-        DescriptorType::Leaf => at_leaf(g, n, x),
-    }
-}
-
 // Where a leaf puts an input, t being its shift: the leaf's bits 47 down to t, then the input's below t.
 pub fn output_address(x: u64, t: u64, input: u64) -> u64
+    requires { ⌜ t < 48 ⌝ }
     ensures { λ r. ⌜ r ≡ Entries.outputAddress x t input ⌝ }
 {
-    upper(x, t) + lower(input, t)
-}
-
-// Before the first table nothing is imposed.
-pub fn nothing() -> Inherited
-    ensures { λ r. ⌜ r ≡ Entries.nothing ⌝ }
-{
-    Inherited {
-        readonly: false,
-        el1only: false,
-        xn: false,
-        pxn: false,
-    }
-}
-
-// What is imposed once the walk has passed the table entry x: APTable is bits 62:61, XNTable 60, PXNTable 59.
-pub fn inherit(h: Inherited, x: u64) -> Inherited
-    ensures { λ r. ⌜ r ≡ Entries.inherit h x ⌝ }
-{
-    Inherited {
-        readonly: h.readonly | bit(x, 62),
-        el1only: h.el1only | bit(x, 61),
-        xn: h.xn | bit(x, 60),
-        pxn: h.pxn | bit(x, 59),
-    }
+    (x % 0x1_0000_0000_0000 >> t << t) + input % (1 << t)
 }

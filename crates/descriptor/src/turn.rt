@@ -12,12 +12,12 @@ ghost use Rattle.descriptor.specs.declared.entry.DescriptorType.the-vari
 ghost use Rattle.descriptor.specs.Entry as Entries;
 ghost use Rattle.descriptor.specs.Turn as Turns;
 
-// The least number with a bit beyond an output size, among those of 48 bits.
-fn limit(outputsize: u64) -> u64
-    ensures { λ r. ⌜ r ≡ Turns.limit outputsize ⌝ }
+// The least number with a bit beyond a size, among those of 48 bits.
+pub fn limit(size: u64) -> u64
+    ensures { λ r. ⌜ r ≡ Turns.limit size ⌝ }
 {
-    if outputsize <= 48 {
-        1 << outputsize
+    if size <= 48 {
+        1 << size
     } else {
         0x1_0000_0000_0000
     }

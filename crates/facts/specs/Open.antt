@@ -18,7 +18,8 @@ use Rattle.level.specs.Level.{outputSize, start1, start2, sizeCheck, levelsBelo
 use Rattle.regime.specs.Roots.{rootOf, root2, stage1, stage2}
 use Rattle.answers.specs.Refusals.{refuse}
 use Rattle.answers.specs.Question.{told, turnedAway, askOver}
-use Rattle.batch.specs.Batch.{answerOf, outputOf, answered, batchOver}
+use Rattle.answers.specs.Entries.{answerOf, outputOf}
+use Rattle.batch.specs.Batch.{answered, batchOver}
 use Rattle.ledger.specs.Ledger.{count, ledger}
 use Rattle.ledger.specs.Ledger.{ascii, digits, decimal, line}
 use Rattle.ledger.specs.Line.{lineInto}

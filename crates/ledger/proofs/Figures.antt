@@ -2,11 +2,11 @@
 -- Assumes nothing.
 use mathlib.Core.Path.{_≡_, refl, _∙_}
 use mathlib.Core.Bool.{Bool, _&&_}
-use mathlib.Core.List.{List, [], _∷_, map}
+use mathlib.Core.List.{List, [], _∷_}
 use Prim.Native.Nat.{ℕ, suc, _+_, _≤_, _<_}
 use native.Mathlib.Omega.{arith}
 use lib.Dec.{leb, eqb}
-use lib.ListN.{length, drop, getD}
+use lib.ListN.{length, drop, getD, drop-of-length-le}
 use lib.Seq.{drop-cons}
 use Rattle.bits.specs.Bits.{pick}
 use Rattle.bits.proofs.Tests.{by-pick}
@@ -40,7 +40,7 @@ more l [] = same-ledger (omega arith) (omega arith) (omega arith) (omega arith) 
 more l (n ∷ ns) = more (tallied l n) ns ∙ same-ledger (omega arith) (omega arith) (omega arith) (omega arith) (omega arith)
 
 -- from nothing it is the list's
-pub from-none : (ns : List ℕ) → ledgerFrom none ns ≡ ledger ns
+from-none : (ns : List ℕ) → ledgerFrom none ns ≡ ledger ns
 unfolding ledger
 from-none ns = more none ns ∙ same-ledger (omega arith) (omega arith) (omega arith) (omega arith) (omega arith)
 
@@ -57,19 +57,20 @@ at-most l i k h e =
       unsettled = omega (arith, h .unsettled);
     }
 
--- the answers from i on are still to be counted
-pub record Counting (f : ℕ → ℕ) (addresses : List ℕ) (l : Ledger) (i : ℕ) : Type 0 where
+-- the numbers from i on are still to be counted
+pub record Counting (numbers : List ℕ) (l : Ledger) (i : ℕ) : Type 0 where
   pub few : AtMost l i
-  pub rest : ledgerFrom l (map f (drop i addresses)) ≡ ledgerFrom none (map f addresses)
+  pub rest : ledgerFrom l (drop i numbers) ≡ ledgerFrom none numbers
 
-module _ (f : ℕ → ℕ) (addresses : List ℕ) where
-  pub counting-start : Counting f addresses none 0
+module _ (numbers : List ℕ) where
+  pub counting-start : Counting numbers none 0
   counting-start = record { few = record { asked = omega arith; translated = omega arith; faulted = omega arith; absent = omega arith; unsettled = omega arith }; rest = refl }
 
-  pub counting-next : (l : Ledger) (i x : ℕ) → i < length addresses → x ≡ f (getD addresses i 0) → Counting f addresses l i → Counting f addresses (tallied l x) (i + 1)
+  pub counting-next : (l : Ledger) (i : ℕ) → i < length numbers → Counting numbers l i → Counting numbers (tallied l (getD numbers i 0)) (i + 1)
   unfolding ledgerFrom
-  counting-next l i x less e w =
+  counting-next l i less w =
       let h = w .few in
+      let x : ℕ = getD numbers i 0 in
       let next : suc i ≡ i + 1 = omega arith in
       record {
         few =
@@ -80,12 +81,12 @@ module _ (f : ℕ → ℕ) (addresses : List ℕ) where
               absent = omega (arith, h .absent, at-most-one (eqb x 6));
               unsettled = omega (arith, h .unsettled, at-most-one (eqb x 7));
             };
-        rest = rw (← next, e) (rw (drop-cons addresses i 0 less) at (w .rest));
+        rest = rw (← next) (rw (drop-cons numbers i 0 less) at (w .rest));
       }
 
-  pub counting-done : (l : Ledger) (i : ℕ) → drop i addresses ≡ [] → Counting f addresses l i → l ≡ ledger (map f addresses)
+  pub counting-done : (l : Ledger) (i : ℕ) → length numbers ≤ i → Counting numbers l i → l ≡ ledger numbers
   unfolding ledgerFrom
-  counting-done l i over w = rw over at (w .rest) ∙ from-none (map f addresses)
+  counting-done l i over w = rw (drop-of-length-le numbers over) at (w .rest) ∙ from-none numbers
 
 -- ---- the figures add up
 

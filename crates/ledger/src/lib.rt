@@ -1,8 +1,9 @@
 // The ledger of a batch: how many answers of each sort there were, and its line.
 ghost use mathlib.Core.Path.{_≡_};
-ghost use Prim.Native.Nat.{ℕ, _≤_};
+ghost use Prim.Native.Nat.{ℕ, _-_, _^_, _≤_};
 ghost use Rattle.bits.specs.Bits.{pick};
 ghost use Rattle.ledger.specs.Calls as Calls;
+ghost use Rattle.ledger.specs.Ledger as Ledgers;
 
 pub mod line;
 
@@ -23,8 +24,8 @@ fn one(test: bool) -> u64
 }
 
 // A ledger with one answer more, by its number.
-pub fn tally(l: Ledger, number: u64) -> Ledger
-    requires { ⌜ Calls.AtMost l 4096 ⌝ }
+fn tally(l: Ledger, number: u64) -> Ledger
+    requires { ⌜ Calls.AtMost l (2 ^ 64 - 2) ⌝ }
     ensures { λ r. ⌜ r ≡ Calls.tallied l number ⌝ }
 {
     Ledger {
@@ -34,4 +35,23 @@ pub fn tally(l: Ledger, number: u64) -> Ledger
         absent: l.absent + one(number == 6),
         unsettled: l.unsettled + one(number == 7),
     }
+}
+
+// The ledger of a list of answers' numbers.
+pub fn count(numbers: &[u64]) -> Ledger
+    ensures { λ r. ⌜ r ≡ Ledgers.ledger (now (numbers .entry)) ⌝ }
+{
+    let mut l = Ledger {
+        asked: 0,
+        translated: 0,
+        faulted: 0,
+        absent: 0,
+        unsettled: 0,
+    };
+    let mut i = 0;
+    while i < numbers.len() {
+        l = tally(l, numbers[i]);
+        i += 1;
+    }
+    l
 }

@@ -28,11 +28,24 @@ pub fn translate(bytes: &[u8], base: u64, r: El2, g: El1, a: Access, log: &mut [
     match verdict {
         Verdict::Refused(why) => Answer::Refused(why),
         Verdict::Accepted => {
-            let s1 = regime::stage1(r, g);
-            let s2 = regime::stage2(r);
-            let end = stages::both::access(bytes, base, s1, s2, a, log);
-            let reads = end.count as u64;
-            let reached = end.reached;
+            let addresses = [a.address; 1];
+            let mut outputs = [0u64; 1];
+            let mut numbers = [0u64; 1];
+            let last = accesses::each(
+                bytes,
+                base,
+                r,
+                g,
+                a.kind,
+                a.el,
+                a.size,
+                &addresses,
+                &mut outputs,
+                &mut numbers,
+                log,
+            );
+            let reads = last.count as u64;
+            let reached = last.reached;
             answers::answered(reached, reads)
         }
     }

@@ -1,105 +1,221 @@
--- Calls that ran stage 1, or both stages.
+-- Calls that ran an access: from what stage 2 gave for one address, through the levels of stage 1, to the end.
 -- Assumes nothing.
-use mathlib.Core.Path.{_≡_}
-use mathlib.Core.Bool.{true, false}
+use mathlib.Core.Path.{_≡_, refl, sym, _∙_}
+use mathlib.Core.Bool.{Bool, true, false, true≢false, not}
 use mathlib.Core.List.{List}
-use Prim.Native.Nat.{ℕ}
-use Rattle.bits.specs.Bits.{pick}
-use Rattle.reads.specs.Program.{Request, Outcome, done}
-use Rattle.descriptor.specs.Entry.{nothing}
-use Rattle.access.specs.declared.Access.{Access}
+use Prim.Native.Nat.{ℕ, suc, _+_, _-_, _*_, _≤_, _<_}
+use native.Mathlib.Omega.{arith}
+use lib.Bits.{bitOr}
+use lib.ListN.{length, set}
+use Rattle.bits.specs.Bits.{pick, field, upper}
+use Rattle.bits.proofs.Tests.{pick-true, pick-false}
+use Rattle.reads.specs.Program.{Request, reached, stopped, done, bind}
+use Rattle.reads.specs.Ran.{Ran}
 use Rattle.reads.specs.declared.Read.{Read}
-use Rattle.descriptor.specs.declared.entry.FaultKind.{FaultKind}
-use Rattle.walk.specs.Walk.{fault, walk, walkFrom}
-use Rattle.walk.specs.Checks.{give}
-use Rattle.walk.specs.Stage2.{translate2}
-use Rattle.stages.specs.Stage1.{place1, root1At, check1, stage1Off, translate1}
-use Rattle.stages.specs.Stages.{finish, access}
-use Rattle.walk.specs.declared.stop.Stage.the-variants.{One}
-use Rattle.stages.specs.declared.both.Translation.{Translation}
+use Rattle.reads.specs.declared.Read.the-variants.{Absent, Word}
+use Rattle.reads.proofs.Ran.{ran-done, ran-then, ran-stopped, ran-true, ran-false, ran-length}
+use Rattle.access.specs.declared.Access.{Access}
+use Rattle.attributes.specs.Attributes.{classOf, settledPart, stage1Attributes, stage2Attributes, combine}
+use Rattle.descriptor.specs.Entry.{shift, decode, outputAddress}
+use Rattle.descriptor.specs.Turn.{turnOf, imposed}
+use Rattle.descriptor.specs.declared.entry.Geometry.{Geometry}
+use Rattle.descriptor.proofs.Imposed.{imposed-or}
+use Rattle.walk.specs.Walk.{Reading, walkFrom}
+use Rattle.walk.specs.Checks.{misaligned, give}
+use Rattle.walk.specs.Stage2.{uncached2, translate2}
+use Rattle.walk.specs.Ends.{passed, stoppedBy, stopBy, outcome, ended, leadsDown, isLeaf, over, verdict}
+use Rattle.walk.specs.declared.stop.Stage.{Stage}
+use Rattle.walk.specs.declared.stop.Stage.the-variants.{One, Two}
 use Rattle.walk.specs.declared.stop.Stop.{Stop}
 use Rattle.walk.specs.declared.table.Leaf.{Leaf}
-use Rattle.walk.specs.declared.table.Table.{Table}
-use Rattle.walk.specs.declared.table.Root.{Root}
-use Rattle.walk.specs.declared.table.Root.the-variants.{Unusable, Usable}
-use Rattle.stages.specs.declared.both.Reached.the-variants as R
-use Rattle.stages.specs.declared.stage1.Stage1.{Stage1}
-use Rattle.attributes.specs.Attributes.{combine}
-use Rattle.attributes.specs.declared.Attributes.{Attributes}
-use Rattle.walk.specs.declared.check.Checked.{Checked}
-use Rattle.walk.specs.declared.check.Checked.the-variants as C
-use Rattle.walk.specs.declared.table.Walked.the-variants as W
-use Rattle.stages.specs.declared.stage1.Located.the-variants as L
-use Rattle.walk.specs.declared.check.Output.{Output}
+use Rattle.walk.specs.declared.end.Ending.{Ending}
+use Rattle.walk.specs.declared.end.Ending.the-variants as E
+use Rattle.walk.specs.declared.end.End.{End}
 use Rattle.walk.specs.declared.stage2.Stage2.{Stage2}
-use Rattle.reads.specs.Ran.{Ran}
-use Rattle.walk.specs.Calls.{walked, checked}
-use Rattle.stages.specs.Calls.{located, arrived}
-use Rattle.walk.proofs.Calls.{ran-give}
-use Rattle.reads.proofs.Ran.{ran-done, ran-stop, ran-then, ran-stopped, ran-true, ran-false}
+use Rattle.walk.proofs.Ends.{outcome-passed, outcome-stopped, over-stops, ran-give, verdict-checked, verdict-anywhere}
+use Rattle.walk.proofs.Turns.{leafAt, req, Walking, walking-stopped, walking-absent, walking-leaf, walking-over, walking-down}
+use Rattle.stages.specs.Stage1.{place1, root1At, uncached1, denied1, check1, translate1}
+use Rattle.stages.specs.Stages.{finish, access}
+use Rattle.stages.specs.Calls.{finishedAt, outputOf, stageBy, arrived, atFirst, ending1, Seconded}
+use Rattle.stages.specs.declared.stage1.Stage1.{Stage1}
+use Rattle.stages.specs.declared.both.Translation.{Translation}
+use Rattle.stages.specs.declared.both.By.{By}
+use Rattle.stages.specs.declared.both.By.the-variants.{OnWalk, Second}
 
--- ---- where a stage 1 descriptor lies
+-- an end, and what follows where it passed
+ran-outcome : {A B : Type 0} (m : Request → Read) {p : Reading A} (f : A → Reading B) (s : Stage) (v : A) (w : B) (e : End) {log l : List ℕ} {k end : ℕ} →
+    Ran m (f v) l end (reached w) end l → Ran m p log k (outcome s v e) end l → Ran m (bind p f) log k (outcome s w e) end l
+ran-outcome {A} {B} m {p} f s v w e {log} {l} {k} {end} q = by-passed (passed (e .ending)) refl
+  where
+    by-passed : (b : Bool) → passed (e .ending) ≡ b → Ran m p log k (outcome s v e) end l → Ran m (bind p f) log k (outcome s w e) end l
+    by-passed true t r = rw (outcome-passed s w e t) (ran-then m f (rw (outcome-passed s v e t) at r) q)
+    by-passed false t r = rw (outcome-stopped s w e t) (ran-stopped m f (rw (outcome-stopped s v e t) at r))
 
-module _ (m : Request → Read) (s : Stage2) (a : Access) (at : ℕ) {log : List ℕ} {count : ℕ} where
-  pub ran-place-off : s .on ≡ false → Ran m (place1 s a at) log count (located (L.At at)) count log
-  unfolding place1 located pick
-  ran-place-off off = rw off (ran-done m at log count)
+-- ---- stage 2
 
-  module _ (on : s .on ≡ true) {end : ℕ} {log₁ : List ℕ} where
-    pub ran-placed : (o : Output) → Ran m (translate2 s a true at) log count (checked (C.Passed o)) end log₁ → Ran m (place1 s a at) log count (located (L.At (o .address))) end log₁
-    unfolding place1 checked located
-    ran-placed o q = ran-true m _ on (ran-then m (λ k. done (k .address)) q (ran-done m _ _ _))
+module _ (m : Request → Read) (s : Stage2) (a : Access) (ipa : ℕ) {log : List ℕ} {count : ℕ} where
+  pub seconded-off : (w : Bool) → s .on ≡ false → Seconded m s a w ipa log count (record { ending = E.Passed; address = ipa; word = 0; level = 0; count = count }) log
+  unfolding place1 finish outcome passed pick
+  seconded-off w off =
+      record {
+        placed = λ _. ran-false m _ off (ran-done m ipa log count);
+        finished = λ _ o e. ran-false m _ off (rw (e, pick-false (s .on) (combine (o .attributes) (settledPart (stage2Attributes (uncached2 s a false) 0))) (o .attributes) off) (ran-done m _ log count));
+      }
 
-    pub ran-place-stopped : (e : Stop) → Ran m (translate2 s a true at) log count (checked (C.Stopped e)) end log₁ → Ran m (place1 s a at) log count (located (L.Stopped e)) end log₁
-    unfolding place1 checked located
-    ran-place-stopped e q = ran-true m _ on (ran-stopped m (λ k. done (k .address)) q)
+  module _ (on : s .on ≡ true) {log′ : List ℕ} where
+    pub seconded-on : (w : Bool) (r : End) → Ran m (translate2 s a w ipa) log count (ended (Two ipa w) (stage2Attributes (uncached2 s a w)) r) (r .count) log′ → Seconded m s a w ipa log count r log′
+    unfolding place1 finish
+    seconded-on w r q =
+        record {
+          placed = λ e. ran-true m _ on (ran-outcome m (λ o. done (o .address)) (Two ipa true) _ (r .address) r (ran-done m _ _ _) (rw e at q));
+          finished =
+              λ e o i. ran-true m _ on
+              (rw (i, pick-true (s .on) (combine (o .attributes) (settledPart (stage2Attributes (uncached2 s a false) (r .word)))) (o .attributes) on)
+              (ran-outcome m (λ p. done (record { address = p .address; attributes = combine (o .attributes) (p .attributes); level1 = o .level; level2 = p .level })) (Two ipa false) _ _ r (ran-done m _ _ _) (rw e at q)));
+        }
 
--- ---- stage 1
+-- ---- stage 1, and the whole access
 
-module _ (m : Request → Read) (s1 : Stage1) (root : Root) (s2 : Stage2) (a : Access) {log : List ℕ} {count : ℕ} where
-  pub ran-off : (c : Checked) → s1 .on ≡ false → c ≡ stage1Off s1 a → Ran m (translate1 s1 root s2 a) log count (checked c) count log
-  unfolding translate1
-  ran-off c off e = ran-false m _ off (rw (← e) (ran-give m c log count))
+module _ (m : Request → Read) (s1 : Stage1) (s2 : Stage2) (a : Access) where
+  -- the walk for the address
+  abbrev pub whole : Reading Leaf
+  whole = walkFrom (place1 s2 a) One (a .address) (root1At s1 (a .address))
 
-  module _ (on : s1 .on ≡ true) where
-    pub ran-unusable1 : (kind : FaultKind) (level : ℕ) → root ≡ Unusable kind level → Ran m (translate1 s1 root s2 a) log count (checked (C.Stopped (fault kind One level))) count log
-    unfolding translate1 walkFrom checked
-    ran-unusable1 kind level e = ran-true m _ on (rw e (ran-stopped m _ (ran-stop m _ _ _)))
+  module _ {log l : List ℕ} {k end : ℕ} where
+    -- a walk that stops, stops the access
+    pub stopped-walk : {e : Stop} → s1 .on ≡ true → Ran m whole log k (stopped e) end l → Ran m (access s1 s2 a) log k (stopped e) end l
+    unfolding access translate1
+    stopped-walk on r = ran-stopped m (finish s2 a) (ran-true m _ on (ran-stopped m (λ l. give (check1 s1 a l)) r))
 
-    module _ {t : Table} (r : root ≡ Usable t) {end : ℕ} {log₁ : List ℕ} where
-      pub ran-walk1-stopped : (e : Stop) → Ran m (walk (place1 s2 a) (t .geometry) One (a .address) (t .levels) (t .bits) (t .base) nothing) log count (walked (W.Stopped e)) end log₁ →
-          Ran m (translate1 s1 root s2 a) log count (checked (C.Stopped e)) end log₁
-      unfolding translate1 walkFrom walked checked
-      ran-walk1-stopped e q = ran-true m _ on (rw r (ran-stopped m _ q))
+    -- the checks of a leaf
+    checked-leaf : (x : Leaf) (e : End) → s1 .on ≡ true → Ran m whole log k (reached x) end l →
+        e .address ≡ outputAddress (x .word) (x .shift) (a .address) → e .word ≡ x .word → e .level ≡ x .level →
+        e .ending ≡ verdict (λ d. misaligned a d) (λ d. denied1 s1 a d x) (classOf (stage1Attributes (s1 .mair) (uncached1 s1 a) (x .word))) →
+        Ran m (translate1 s1 (root1At s1 (a .address)) s2 a) log k (ended One (stage1Attributes (s1 .mair) (uncached1 s1 a)) e) end l
+    unfolding translate1 check1
+    checked-leaf x e on r address word level ending =
+        ran-true m _ on
+        (ran-then m (λ l. give (check1 s1 a l)) r
+        (rw (← verdict-checked One (a .address) x (λ d. misaligned a d) (λ d. denied1 s1 a d x) (stage1Attributes (s1 .mair) (uncached1 s1 a)) e address word level ending) (ran-give m _ _ _)))
 
-      pub ran-walk1-checked : (l : Leaf) (c : Checked) → Ran m (walk (place1 s2 a) (t .geometry) One (a .address) (t .levels) (t .bits) (t .base) nothing) log count (walked (W.Ended l)) end log₁ →
-          c ≡ check1 s1 a l → Ran m (translate1 s1 root s2 a) log count (checked c) end log₁
-      unfolding translate1 walkFrom walked
-      ran-walk1-checked l c q e = ran-true m _ on (rw r (ran-then m (λ k. give (check1 s1 a k)) q (rw (← e) (ran-give m c _ _))))
+    -- an end at stage 1 that did not pass
+    pub first-stopped : (e : End) → passed (e .ending) ≡ false → Ran m (access s1 s2 a) log k (stopped (stopBy One (e .address) (e .level) (e .ending))) end l → Ran m (access s1 s2 a) log k (arrived s1 s2 a (atFirst e)) end l
+    unfolding arrived stageBy
+    first-stopped e p r = rw (outcome-stopped {A = Translation} One (finishedAt s2 a (outputOf s1 a 0 0 0) e) e p) r
 
--- ---- both
+-- where an access stands: at an entry of stage 1's walk, or at stage 1's output
+pub data Going (m : Request → Read) (s1 : Stage1) (s2 : Stage2) (a : Access) (g : Geometry) (log₀ log : List ℕ) (walking : Bool) (left t ipa tables level1 word1 k : ℕ) : Type 0 where
+  walks : walking ≡ true → s1 .on ≡ true → Walking m (place1 s2 a) g One (a .address) (whole m s1 s2 a) log₀ 0 log k left t ipa (imposed tables) → k + 5 * suc left ≤ 20 →
+      Going m s1 s2 a g log₀ log walking left t ipa tables level1 word1 k
+  ends : walking ≡ false → Ran m (translate1 s1 (root1At s1 (a .address)) s2 a) log₀ 0 (reached (outputOf s1 a ipa level1 word1)) k log → k ≤ 20 →
+      Going m s1 s2 a g log₀ log walking left t ipa tables level1 word1 k
 
-module _ (m : Request → Read) (s : Stage2) (a : Access) (o : Output) {log : List ℕ} {count : ℕ} where
-  pub ran-alone : s .on ≡ false → Ran m (finish s a o) log count (arrived (R.To (record { address = o .address; attributes = o .attributes; level1 = o .level; level2 = 0 }))) count log
-  unfolding finish arrived
-  ran-alone off = ran-false m _ off (ran-done m _ log count)
+module _ {m : Request → Read} {s1 : Stage1} {s2 : Stage2} {a : Access} {g : Geometry} {log₀ log : List ℕ} {walking : Bool} {left t ipa tables level1 word1 k : ℕ} where
+  at-entry : Going m s1 s2 a g log₀ log walking left t ipa tables level1 word1 k → walking ≡ true →
+      (s1 .on ≡ true) × Walking m (place1 s2 a) g One (a .address) (whole m s1 s2 a) log₀ 0 log k left t ipa (imposed tables) × (k + 5 * suc left ≤ 20)
+  at-entry (walks w on i few) e = (on, i, few)
+  at-entry (ends w r few) e = absurd (true≢false (sym e ∙ w))
 
-  module _ (on : s .on ≡ true) {end : ℕ} {log₁ : List ℕ} where
-    pub ran-finished : (p : Output) (t : Attributes) → Ran m (translate2 s a false (o .address)) log count (checked (C.Passed p)) end log₁ → t ≡ combine (o .attributes) (p .attributes) →
-        Ran m (finish s a o) log count (arrived (R.To (record { address = p .address; attributes = t; level1 = o .level; level2 = p .level }))) end log₁
-    unfolding finish checked arrived
-    ran-finished p t q e = rw e (ran-true m _ on (ran-then m _ q (ran-done m _ _ _)))
+  at-output : Going m s1 s2 a g log₀ log walking left t ipa tables level1 word1 k → walking ≡ false →
+      Ran m (translate1 s1 (root1At s1 (a .address)) s2 a) log₀ 0 (reached (outputOf s1 a ipa level1 word1)) k log
+  at-output (walks w on i few) e = absurd (true≢false (sym w ∙ e))
+  at-output (ends w r few) e = r
 
-    pub ran-finish-stopped : (e : Stop) → Ran m (translate2 s a false (o .address)) log count (checked (C.Stopped e)) end log₁ → Ran m (finish s a o) log count (arrived (R.Stopped e)) end log₁
-    unfolding finish checked arrived
-    ran-finish-stopped e q = ran-true m _ on (ran-stopped m _ q)
+  pub going-on : Going m s1 s2 a g log₀ log walking left t ipa tables level1 word1 k → walking ≡ true → s1 .on ≡ true
+  going-on now e = at-entry now e .0
 
-module _ (m : Request → Read) (s1 : Stage1) (s2 : Stage2) (a : Access) {log log₁ : List ℕ} {end : ℕ} where
-  pub ran-access : (o : Output) {log₂ : List ℕ} {end₂ : ℕ} {r : Outcome Stop Translation} → Ran m (translate1 s1 (root1At s1 (a .address)) s2 a) log 0 (checked (C.Passed o)) end log₁ →
-      Ran m (finish s2 a o) log₁ end r end₂ log₂ → Ran m (access s1 s2 a) log 0 r end₂ log₂
-  unfolding access checked
-  ran-access o q r = ran-then m _ q r
+  pub going-entry : Going m s1 s2 a g log₀ log walking left t ipa tables level1 word1 k → walking ≡ true → (left ≤ 3) × (t ≡ shift g left) × (t < 48) × (k + 5 * suc left ≤ 20)
+  going-entry now e = let i = at-entry now e in (i .1 .few, i .1 .shifted, i .1 .low, i .2)
 
-  pub ran-access-stopped : (e : Stop) → Ran m (translate1 s1 (root1At s1 (a .address)) s2 a) log 0 (checked (C.Stopped e)) end log₁ → Ran m (access s1 s2 a) log 0 (arrived (R.Stopped e)) end log₁
-  unfolding access checked arrived
-  ran-access-stopped e q = ran-stopped m _ q
+  pub going-few : Going m s1 s2 a g log₀ log walking left t ipa tables level1 word1 k → k ≤ 20
+  going-few (walks w on i few) = omega arith
+  going-few (ends w r few) = few
+
+  pub going-same : Going m s1 s2 a g log₀ log walking left t ipa tables level1 word1 k → length log ≡ length log₀
+  going-same (walks w on i few) = i .same
+  going-same (ends w r few) = ran-length r
+
+-- ---- with what stage 2 gave
+
+module _ {m : Request → Read} {s1 : Stage1} {s2 : Stage2} {a : Access} {g : Geometry} {log₀ log : List ℕ} {walking : Bool} {left t ipa tables level1 word1 k : ℕ}
+    (now : Going m s1 s2 a g log₀ log walking left t ipa tables level1 word1 k) {r : End} {log₁ : List ℕ} (x : Seconded m s2 a walking ipa log k r log₁) where
+  abbrev Arrives : By → Type 0
+  Arrives b = Ran m (access s1 s2 a) log₀ 0 (arrived s1 s2 a (record { by = b; end = r; ipa = ipa; level1 = level1; word1 = word1 })) (r .count) log₁
+
+  pub going-ends : walking ≡ false → Arrives Second
+  unfolding access arrived stageBy
+  going-ends e = ran-then m (finish s2 a) (at-output now e) (x .finished e (outputOf s1 a ipa level1 word1) refl)
+
+  pub going-stops : passed (r .ending) ≡ false → Arrives (pick walking OnWalk Second)
+  unfolding arrived stageBy pick
+  going-stops p = by-walking walking refl
+    where
+      by-walking : (b : Bool) → walking ≡ b → Arrives (pick b OnWalk Second)
+      by-walking true e =
+          let i = at-entry now e in
+          rw (outcome-stopped {A = Translation} (Two ipa true) (finishedAt s2 a (outputOf s1 a ipa level1 word1) r) r p)
+          (stopped-walk m s1 s2 a (i .0) (walking-stopped (i .1) (rw (outcome-stopped (Two ipa true) (r .address) r p) at (x .placed e))))
+      by-walking false e = going-ends e
+
+  -- ---- at an entry that is placed
+
+  module _ (on : walking ≡ true) (p : passed (r .ending) ≡ true) where
+    placed : Ran m (place1 s2 a ipa) log k (reached (r .address)) (r .count) log₁
+    placed = rw (outcome-passed (Two ipa true) (r .address) r p) at (x .placed on)
+
+    abbrev At : Read → Type 0
+    At f = m (req m (place1 s2 a) g One (a .address) (r .address)) ≡ f
+
+    pub going-absent : (e : End) → e .ending ≡ E.Absent → e .address ≡ r .address → e .level ≡ 3 - left → At Absent → Ran m (access s1 s2 a) log₀ 0 (arrived s1 s2 a (atFirst e)) (r .count) log₁
+    unfolding passed stopBy
+    going-absent e q u v f =
+        let i = at-entry now on in
+        first-stopped m s1 s2 a e (rw q) (rw (q, u, v) (stopped-walk m s1 s2 a (i .0) (walking-absent (i .1) placed f)))
+
+    module _ {y : ℕ} (f : At (Word y)) where
+      abbrev Log : List ℕ
+      Log = set log₁ (r .count) (r .address)
+
+      pub going-down : leadsDown (turnOf (decode g left y)) ≡ true → 0 < left → r .count ≤ k + 4 →
+          Going m s1 s2 a g log₀ Log walking (left - 1) (t - g .stride) (upper y (g .grainsize) + 8 * field (a .address) (t - g .stride) (g .stride)) (bitOr tables y) level1 word1 (r .count + 1)
+      going-down d more c =
+          let i = at-entry now on in
+          walks on (i .0) (rw (imposed-or tables y) (walking-down (i .1) placed f d more)) (omega (arith, i .2))
+
+      module _ (not-down : leadsDown (turnOf (decode g left y)) ≡ false) (e : Ending) (is : e ≡ pick (isLeaf (turnOf (decode g left y))) (ending1 s1 a tables y) (over (turnOf (decode g left y)))) where
+        -- the end at a leaf
+        abbrev reading : ℕ → End
+        reading z = record { ending = e; address = outputAddress z t (a .address); word = z; level = 3 - left; count = 0 }
+
+        leaf-ended : isLeaf (turnOf (decode g left y)) ≡ true → Ran m (translate1 s1 (root1At s1 (a .address)) s2 a) log₀ 0 (ended One (stage1Attributes (s1 .mair) (uncached1 s1 a)) (reading y)) (r .count + 1) Log
+        unfolding pick
+        leaf-ended l =
+            let i = at-entry now on in
+            checked-leaf m s1 s2 a (leafAt g left y (imposed tables)) (reading y) (i .0) (walking-leaf (i .1) placed f l) (rw (i .1 .shifted)) refl refl (rw l at is)
+
+        -- a leaf that passes
+        pub going-leaf : passed e ≡ true → r .count ≤ k + 4 → Going m s1 s2 a g log₀ Log false left t (outputAddress y t (a .address)) tables (3 - left) y (r .count + 1)
+        unfolding pick
+        going-leaf q c = by-leaf (isLeaf (turnOf (decode g left y))) refl
+          where
+            by-leaf : (b : Bool) → isLeaf (turnOf (decode g left y)) ≡ b → Going m s1 s2 a g log₀ Log false left t (outputAddress y t (a .address)) tables (3 - left) y (r .count + 1)
+            by-leaf true l =
+                let i = at-entry now on in
+                ends refl
+                (rw (pick-true (s1 .on) (settledPart (stage1Attributes (s1 .mair) (uncached1 s1 a) y)) _ (i .0))
+                (rw (outcome-passed One _ (reading y) q) at (leaf-ended l)))
+                (omega (arith, i .2))
+            by-leaf false l = absurd (true≢false (sym q ∙ rw (is, l) (over-stops _ not-down l)))
+
+        -- a leaf that does not, or no leaf
+        pub going-over : passed e ≡ false → Ran m (access s1 s2 a) log₀ 0 (arrived s1 s2 a (atFirst (stoppedBy e (3 - left) (r .count + 1)))) (r .count + 1) Log
+        unfolding access pick
+        going-over q = first-stopped m s1 s2 a (stoppedBy e (3 - left) (r .count + 1)) q (by-leaf (isLeaf (turnOf (decode g left y))) refl)
+          where
+            by-leaf : (b : Bool) → isLeaf (turnOf (decode g left y)) ≡ b → Ran m (access s1 s2 a) log₀ 0 (stopped (stopBy One 0 (3 - left) e)) (r .count + 1) Log
+            by-leaf true l =
+                let anywhere : stopBy One 0 (3 - left) e ≡ stopBy One (outputAddress y t (a .address)) (3 - left) e = rw (is, l) (verdict-anywhere One 0 (outputAddress y t (a .address)) (3 - left) _ _ _) in
+                rw anywhere (ran-stopped m (finish s2 a) (rw (outcome-stopped One _ (reading y) q) at (leaf-ended l)))
+            by-leaf false l =
+                let i = at-entry now on in
+                rw (is, l) (stopped-walk m s1 s2 a (i .0) (walking-over (i .1) placed f 0 not-down l))

@@ -1,4 +1,6 @@
 pub mod Tops
-pub mod Calls
+pub mod Ranges
 pub mod Counts
 pub mod Accesses
+pub mod Calls
+pub mod Openings

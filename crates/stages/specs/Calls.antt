@@ -1,29 +1,106 @@
--- For the contracts of code: what its answers stand for, and the stages that an access may be called with.
+-- For the contracts of code: what its words stand for, and the stages that an access may be called with.
 -- Assumes nothing.
 use mathlib.Core.Path.{_≡_}
-use mathlib.Core.Bool.{true}
-use Prim.Native.Nat.{ℕ}
-use Rattle.reads.specs.Program.{Outcome, reached, stopped}
-use Rattle.walk.specs.Calls.{SmallRoot}
+use mathlib.Core.Bool.{Bool, true, false, not, _&&_, _||_}
+use mathlib.Core.List.{List}
+use Prim.Native.Nat.{ℕ, suc, _+_, _*_, _/_, _%_, _^_}
+use lib.Dec.{eqb}
+use Rattle.bits.specs.Bits.{pick, field}
+use Rattle.reads.specs.Program.{Request, Outcome, reached, stopped}
+use Rattle.reads.specs.Ran.{Ran}
+use Rattle.reads.specs.declared.Read.{Read}
+use Rattle.access.specs.Access.{isFetch, unaligned}
+use Rattle.access.specs.declared.Access.{Access}
+use Rattle.attributes.specs.Attributes.{classOf, settledPart, stage1Attributes, stage2Attributes, stage1OffAttributes, combine}
+use Rattle.attributes.specs.declared.Attributes.{Attributes}
+use Rattle.descriptor.specs.Permission.{stage1Permits}
+use Rattle.descriptor.specs.Turn.{imposed}
+use Rattle.walk.specs.Checks.{misaligned}
+use Rattle.walk.specs.Stage2.{uncached2}
+use Rattle.walk.specs.Ends.{outcome, verdict}
+use Rattle.walk.specs.Calls.{Within, Starts}
+use Rattle.walk.specs.declared.stop.Stage.{Stage}
+use Rattle.walk.specs.declared.stop.Stage.the-variants.{One, Two}
 use Rattle.walk.specs.declared.stop.Stop.{Stop}
+use Rattle.walk.specs.declared.check.Output.{Output}
+use Rattle.walk.specs.declared.end.Ending.{Ending}
+use Rattle.walk.specs.declared.end.Ending.the-variants as E
+use Rattle.walk.specs.declared.end.End.{End}
 use Rattle.walk.specs.declared.stage2.Stage2.{Stage2}
-use Rattle.stages.specs.Stage1.{root1At}
+use Rattle.stages.specs.Stage1.{top, root1At, uncached1, place1}
+use Rattle.stages.specs.Stages.{finish}
+use Rattle.stages.specs.Ranges.{boundsOf, Narrow}
 use Rattle.stages.specs.declared.stage1.Stage1.{Stage1}
-use Rattle.stages.specs.declared.stage1.Located.{Located}
-use Rattle.stages.specs.declared.stage1.Located.the-variants as L
+use Rattle.stages.specs.declared.stage1.Prepared1.{Prepared1}
+use Rattle.stages.specs.declared.stage1.Opening.{Opening}
 use Rattle.stages.specs.declared.both.Translation.{Translation}
 use Rattle.stages.specs.declared.both.Reached.{Reached}
 use Rattle.stages.specs.declared.both.Reached.the-variants as R
+use Rattle.stages.specs.declared.both.By.{By}
+use Rattle.stages.specs.declared.both.By.the-variants.{First, OnWalk, Second}
+use Rattle.stages.specs.declared.both.Arrival.{Arrival}
 
-unfoldable pub located : Located → Outcome Stop ℕ
-located (L.At a) = reached a
-located (L.Stopped e) = stopped e
+unfoldable pub outcomeOf : Reached → Outcome Stop Translation
+outcomeOf (R.To t) = reached t
+outcomeOf (R.Stopped e) = stopped e
 
-unfoldable pub arrived : Reached → Outcome Stop Translation
-arrived (R.To t) = reached t
-arrived (R.Stopped e) = stopped e
+-- ---- an access in plain words
 
--- both roots that an access to an address starts from are small. Accepted registers always give such stages (regime/proofs/Ready.antt).
-pub record Ready (s1 : Stage1) (s2 : Stage2) (address : ℕ) : Type 0 where
-  pub first : s1 .on ≡ true → SmallRoot (root1At s1 address)
-  pub second : SmallRoot (s2 .root)
+-- stage 1's attributes, by its leaf's descriptor
+abbrev pub attributes1 : Stage1 → Access → (word : ℕ) → Attributes
+attributes1 s a word = pick (s .on) (settledPart (stage1Attributes (s .mair) (uncached1 s a) word)) (stage1OffAttributes (s .dc) (isFetch a) (s .i))
+
+-- with stage 2's, by its leaf's descriptor
+abbrev pub combined : Stage2 → Access → Attributes → (word : ℕ) → Attributes
+combined s a one word = pick (s .on) (combine one (settledPart (stage2Attributes (uncached2 s a false) word))) one
+
+-- stage 1's output, translated to stage 2's end
+abbrev pub finishedAt : Stage2 → Access → Output → End → Translation
+finishedAt s a o e = record { address = e .address; attributes = combined s a (o .attributes) (e .word); level1 = o .level; level2 = e .level }
+
+-- stage 1's output, of which stage 2 was asked for this IPA
+abbrev pub outputOf : Stage1 → Access → (ipa level word : ℕ) → Output
+outputOf s a ipa level word = record { address = ipa; attributes = attributes1 s a word; level = level }
+
+unfoldable pub stageBy : By → (ipa : ℕ) → Stage
+stageBy First ipa = One
+stageBy OnWalk ipa = Two ipa true
+stageBy Second ipa = Two ipa false
+
+unfoldable pub arrived : Stage1 → Stage2 → Access → Arrival → Outcome Stop Translation
+arrived s1 s2 a r = outcome (stageBy (r .by) (r .ipa)) (finishedAt s2 a (outputOf s1 a (r .ipa) (r .level1) (r .word1)) (r .end)) (r .end)
+
+abbrev pub atFirst : End → Arrival
+atFirst e = record { by = First; end = e; ipa = 0; level1 = 0; word1 = 0 }
+
+-- ---- stage 1
+
+-- what the checks after its walk leave, by the leaf's descriptor and the words of its tables
+abbrev pub ending1 : Stage1 → Access → (tables x : ℕ) → Ending
+ending1 s a tables x =
+    verdict (λ d. misaligned a d) (λ d. not (stage1Permits (s .wxn) a (imposed tables) x) || (d && isFetch a)) (classOf (stage1Attributes (s .mair) (uncached1 s a) x))
+
+-- stage 1 off
+abbrev pub offDevice : Stage1 → Access → Bool
+offDevice s a = not (s .dc) && not (isFetch a)
+
+abbrev pub offEnding : Stage1 → Access → Ending
+offEnding s a =
+    pick (eqb (a .address % 2 ^ suc (top s (a .address)) / 2 ^ (s .pamax)) 0) (pick (offDevice s a && unaligned a) E.Misaligned E.Passed) E.AddressSize
+
+-- stage 1's words are those of the stage
+pub record Sound1 (p : Prepared1) : Type 0 where
+  pub bounds : p .bounds ≡ boundsOf (p .stage)
+  pub lower : p .stage .on ≡ true → Starts (p .lower) (p .stage .lower .root) × Narrow (p .stage .lower)
+  pub upper : p .stage .on ≡ true → Starts (p .upper) (p .stage .upper .root) × Narrow (p .stage .upper)
+
+-- where an access begins
+pub data Opens (p : Prepared1) (a : Access) (o : Opening) : Type 0 where
+  walks : p .stage .on ≡ true → o .walking ≡ true → o .ending ≡ o .start .ending → o .level ≡ o .start .level → Starts (o .start) (root1At (p .stage) (a .address)) →
+      o .ipa ≡ o .start .table .base + 8 * field (a .address) (o .start .shift) (o .start .table .bits) → Opens p a o
+  passes : p .stage .on ≡ false → o .walking ≡ false → o .ending ≡ offEnding (p .stage) a → o .level ≡ 0 → Within (o .start) → o .ipa ≡ a .address % 2 ^ 48 → Opens p a o
+
+-- ---- stage 2, if it is on: of a stage 1 descriptor, and of stage 1's output
+pub record Seconded (m : Request → Read) (s : Stage2) (a : Access) (w : Bool) (ipa : ℕ) (log : List ℕ) (count : ℕ) (r : End) (log′ : List ℕ) : Type 0 where
+  pub placed : w ≡ true → Ran m (place1 s a ipa) log count (outcome (Two ipa true) (r .address) r) (r .count) log′
+  pub finished : w ≡ false → (o : Output) → o .address ≡ ipa → Ran m (finish s a o) log count (outcome (Two ipa false) (finishedAt s a o r) r) (r .count) log′

@@ -1,20 +1,40 @@
-// The access: stage 1, and stage 2 of its output.
+// The access: stage 1 with each of its descriptors placed by stage 2, and stage 2 of its output.
 use crate::stage1;
+use crate::stage1::Opening;
+use crate::stage1::Prepared1;
 use crate::stage1::Stage1;
 use access::Access;
 use attributes::Attributes;
-use walk::check::Checked;
-use walk::check::Output;
+use descriptor::entry;
+use descriptor::entry::FaultKind;
+use descriptor::turn;
+use reads::Read;
+use walk::end;
+use walk::end::End;
+use walk::end::Ending;
 use walk::stage2;
+use walk::stage2::Prepared2;
 use walk::stage2::Stage2;
+use walk::stop;
+use walk::stop::Missing;
+use walk::stop::Open;
+use walk::stop::Stage;
 use walk::stop::Stop;
-ghost use Prim.Native.Nat.{_+_, _≤_};
+ghost use mathlib.Core.Path.{_≡_};
+ghost use mathlib.Core.Bool.{true, false};
+ghost use Prim.Native.Nat.{_+_, _≤_, _^_};
 ghost use lib.ListN.{length};
+ghost use Rattle.bits.specs.Bits.{pick};
 ghost use Rattle.reads.specs.Ran.{Ran};
+ghost use Rattle.access.specs.Access.{listedSize};
 ghost use Rattle.capture.specs.Capture.{captured};
-ghost use Rattle.walk.specs.Calls.{SmallRoot};
+ghost use Rattle.walk.specs.Calls.{Sound2};
+ghost use Rattle.walk.specs.Ends as Ends;
+ghost use Rattle.stages.specs.declared.both.By.the-variants as Bys;
+ghost use Rattle.walk.specs.Stage2 as Seconds;
+ghost use Rattle.stages.specs.Stage1 as Definitions;
 ghost use Rattle.stages.specs.Stages as Stages;
-ghost use Rattle.stages.specs.Calls.{arrived, Ready};
+ghost use Rattle.stages.specs.Calls as Calls;
 
 // A translated access. A stage that is off has level 0.
 pub struct Translation {
@@ -30,77 +50,276 @@ pub enum Reached {
     Stopped(Stop),
 }
 
-pub struct Reach {
-    pub reached: Reached,
-    pub count: usize,
+// Whose end it is: stage 1's, stage 2's of a stage 1 descriptor, or stage 2's of stage 1's output.
+pub enum By {
+    First,
+    OnWalk,
+    Second,
 }
 
-// Stage 2 of an access, after stage 1's output.
-fn finish(
+// The same in plain words.
+pub struct Arrival {
+    pub by: By,
+    pub end: End,
+    // What stage 2 was asked for.
+    pub ipa: u64,
+    // Stage 1's leaf.
+    pub level1: u64,
+    pub word1: u64,
+}
+
+// Stage 2, if it is on; else an IPA is its own output.
+fn second(
     bytes: &[u8],
     base: u64,
-    s: Stage2,
+    p: Prepared2,
     a: Access,
-    o: Output,
+    onwalk: bool,
+    ipa: u64,
     log: &mut [u64],
     count: usize,
-) -> Reach
-    requires { ⌜ SmallRoot (s .root) × (count + 4 ≤ length (now log)) ⌝ }
-    ensures { λ r. ⌜ Ran (captured base (now (bytes .entry))) (Stages.finish s a o) (now (log .entry)) count (arrived (r .reached)) (r .count) (now (log .exit)) × (r .count ≤ count + 4) ⌝ }
+) -> End
+    requires { ⌜ Sound2 p × (listedSize (a .size) ≡ true) × (base + length (now bytes) ≤ 2 ^ 64) × (count + 4 ≤ length (now log)) ⌝ }
+    ensures { λ r. ⌜ Calls.Seconded (captured base (now (bytes .entry))) (p .stage) a onwalk ipa (now (log .entry)) count r (now (log .exit)) × (r .count ≤ count + 4) ⌝ }
 {
+    let s = p.stage;
     let on = s.on;
-    let address = o.address;
-    let attributes = o.attributes;
-    let level1 = o.level;
     if on {
-        let t = stage2::translate2(bytes, base, s, a, false, address, log, count);
-        let end = t.count;
-        let checked = t.checked;
-        match checked {
-            Checked::Passed(p) => {
-                let other = p.attributes;
-                Reach {
-                    reached: Reached::To(Translation {
-                        address: p.address,
-                        attributes: attributes::combine(attributes, other),
-                        level1,
-                        level2: p.level,
-                    }),
-                    count: end,
-                }
-            }
-            Checked::Stopped(stop) => Reach {
-                reached: Reached::Stopped(stop),
-                count: end,
-            },
-        }
+        stage2::translate2(bytes, base, p, a, onwalk, ipa, log, count)
     } else {
-        Reach {
-            reached: Reached::To(Translation {
-                address,
-                attributes,
-                level1,
-                level2: 0,
-            }),
+        End {
+            ending: Ending::Passed,
+            address: ipa,
+            word: 0,
+            level: 0,
             count,
         }
     }
 }
 
-// An access, from what registers say of both stages.
-pub fn access(bytes: &[u8], base: u64, s1: Stage1, s2: Stage2, a: Access, log: &mut [u64]) -> Reach
-    requires { ⌜ Ready s1 s2 (a .address) × (24 ≤ length (now log)) ⌝ }
-    ensures { λ r. ⌜ Ran (captured base (now (bytes .entry))) (Stages.access s1 s2 a) (now (log .entry)) 0 (arrived (r .reached)) (r .count) (now (log .exit)) × (r .count ≤ 24) ⌝ }
+fn by_stage2(onwalk: bool) -> By
+    ensures { λ r. ⌜ r ≡ pick onwalk Bys.OnWalk Bys.Second ⌝ }
 {
-    let root = stage1::root1_at(s1, a.address);
-    let t = stage1::translate1(bytes, base, s1, root, s2, a, log, 0);
-    let end = t.count;
-    let checked = t.checked;
-    match checked {
-        Checked::Passed(o) => finish(bytes, base, s2, a, o, log, end),
-        Checked::Stopped(stop) => Reach {
-            reached: Reached::Stopped(stop),
-            count: end,
-        },
+    if onwalk { By::OnWalk } else { By::Second }
+}
+
+// An end at stage 1.
+fn first(end: End) -> Arrival
+    ensures { λ r. ⌜ r ≡ Calls.atFirst end ⌝ }
+{
+    Arrival {
+        by: By::First,
+        end,
+        ipa: 0,
+        level1: 0,
+        word1: 0,
+    }
+}
+
+// From where it begins. Each turn takes one address through stage 2: that of a stage 1 descriptor, and at last that of stage 1's output.
+fn walk1(
+    bytes: &[u8],
+    base: u64,
+    p: Prepared1,
+    q: Prepared2,
+    a: Access,
+    o: Opening,
+    log: &mut [u64],
+) -> Arrival
+    requires { ⌜ Sound2 q × (listedSize (a .size) ≡ true) × (base + length (now bytes) ≤ 2 ^ 64) × (24 ≤ length (now log)) × Calls.Opens p a o × (Ends.passed (o .ending) ≡ true) ⌝ }
+    ensures { λ r. ⌜ Ran (captured base (now (bytes .entry))) (Stages.access (p .stage) (q .stage) a) (now (log .entry)) 0 (Calls.arrived (p .stage) (q .stage) a r) (r .end .count) (now (log .exit)) × (r .end .count ≤ 24) ⌝ }
+{
+    let s = p.stage;
+    let input = a.address;
+    let start = o.start;
+    let masks = start.masks;
+    let table = start.table;
+    let g = table.geometry;
+    let stride = g.stride;
+    let levels = table.levels;
+    let mut walking = o.walking;
+    let mut left = levels - 1;
+    let mut shift = start.shift;
+    let mut ipa = o.ipa;
+    let mut tables = 0;
+    let mut level1 = 0;
+    let mut word1 = 0;
+    let mut k = 0;
+    loop {
+        let r = second(bytes, base, q, a, walking, ipa, log, k);
+        let ending = r.ending;
+        if end::passed(ending) {
+            if walking {
+                k = r.count;
+                let at = r.address;
+                match capture::read(bytes, base, at) {
+                    Read::Absent => {
+                        return first(End {
+                            ending: Ending::Absent,
+                            address: at,
+                            word: 0,
+                            level: 3 - left,
+                            count: k,
+                        });
+                    }
+                    Read::Word(x) => {
+                        log[k] = at;
+                        k += 1;
+                        let turn = turn::turn(g, masks, left, x);
+                        if end::leads_down(turn) {
+                            left -= 1;
+                            shift -= stride;
+                            tables = tables | x;
+                            ipa = turn::next_entry(g, masks, x, input, shift);
+                        } else {
+                            let ended = stage1::at_entry(s, a, tables, turn, x);
+                            if end::passed(ended) {
+                                walking = false;
+                                ipa = entry::output_address(x, shift, input);
+                                level1 = 3 - left;
+                                word1 = x;
+                            } else {
+                                return first(end::stopped(ended, 3 - left, k));
+                            }
+                        }
+                    }
+                }
+            } else {
+                return Arrival {
+                    by: By::Second,
+                    end: r,
+                    ipa,
+                    level1,
+                    word1,
+                };
+            }
+        } else {
+            return Arrival {
+                by: by_stage2(walking),
+                end: r,
+                ipa,
+                level1,
+                word1,
+            };
+        }
+    }
+}
+
+// An access, from prepared stages.
+pub fn access(
+    bytes: &[u8],
+    base: u64,
+    p: Prepared1,
+    q: Prepared2,
+    a: Access,
+    log: &mut [u64],
+) -> Arrival
+    requires { ⌜ Calls.Sound1 p × Sound2 q × (listedSize (a .size) ≡ true) × (base + length (now bytes) ≤ 2 ^ 64) × (24 ≤ length (now log)) ⌝ }
+    ensures { λ r. ⌜ Ran (captured base (now (bytes .entry))) (Stages.access (p .stage) (q .stage) a) (now (log .entry)) 0 (Calls.arrived (p .stage) (q .stage) a r) (r .end .count) (now (log .exit)) × (r .end .count ≤ 24) ⌝ }
+{
+    let o = stage1::opening_of(p, a);
+    let ending = o.ending;
+    let level = o.level;
+    if end::passed(ending) {
+        walk1(bytes, base, p, q, a, o, log)
+    } else {
+        first(end::stopped(ending, level, 0))
+    }
+}
+
+// C counts for data, I for a fetch.
+fn uncached1(s: Stage1, a: Access) -> bool
+    ensures { λ r. ⌜ r ≡ Definitions.uncached1 s a ⌝ }
+{
+    let c = s.c;
+    let i = s.i;
+    if access::is_fetch(a) { !i } else { !c }
+}
+
+// CD counts for data, ID for a fetch.
+fn uncached2(s: Stage2, a: Access) -> bool
+    ensures { λ r. ⌜ r ≡ Seconds.uncached2 s a false ⌝ }
+{
+    let cd = s.cd;
+    let id = s.id;
+    if access::is_fetch(a) { id } else { cd }
+}
+
+// Stage 1's attributes, by its leaf's descriptor.
+fn attributes1(s: Stage1, a: Access, word: u64) -> Attributes
+    ensures { λ r. ⌜ r ≡ Calls.attributes1 s a word ⌝ }
+{
+    let on = s.on;
+    let dc = s.dc;
+    let i = s.i;
+    if on {
+        attributes::settled_part(attributes::stage1_attributes(s.mair, uncached1(s, a), word))
+    } else {
+        attributes::stage1_off_attributes(dc, access::is_fetch(a), i)
+    }
+}
+
+// With stage 2's, by its leaf's descriptor.
+fn combined(s: Stage2, a: Access, one: Attributes, word: u64) -> Attributes
+    ensures { λ r. ⌜ r ≡ Calls.combined s a one word ⌝ }
+{
+    let on = s.on;
+    if on {
+        let two = attributes::settled_part(attributes::stage2_attributes(uncached2(s, a), word));
+        attributes::combine(one, two)
+    } else {
+        one
+    }
+}
+
+fn stage_of(r: Arrival) -> Stage
+    ensures { λ s. ⌜ s ≡ Calls.stageBy (r .by) (r .ipa) ⌝ }
+{
+    let by = r.by;
+    let ipa = r.ipa;
+    match by {
+        By::First => Stage::One,
+        By::OnWalk => Stage::Two { ipa, onwalk: true },
+        By::Second => Stage::Two { ipa, onwalk: false },
+    }
+}
+
+// A stage's stop; an end that passed has none.
+fn stop_by(s: Stage, address: u64, level: u64, ending: Ending) -> Stop
+    ensures { λ r. ⌜ r ≡ Ends.stopBy s address level ending ⌝ }
+{
+    match ending {
+        Ending::Passed => Stop::Unsettled(Open { stage: s, level }),
+        Ending::Translation => stop::fault_at(FaultKind::Translation, s, level),
+        Ending::AddressSize => stop::fault_at(FaultKind::AddressSize, s, level),
+        Ending::AccessFlag => stop::fault_at(FaultKind::AccessFlag, s, level),
+        Ending::Permission => stop::fault_at(FaultKind::Permission, s, level),
+        Ending::Misaligned => Stop::Misaligned(s),
+        Ending::Absent => Stop::Absent(Missing {
+            address,
+            stage: s,
+            level,
+        }),
+        Ending::Unsettled => Stop::Unsettled(Open { stage: s, level }),
+    }
+}
+
+// How an access ends, from its plain words. Attributes are decoded here, once.
+pub fn reached_by(s1: Stage1, s2: Stage2, a: Access, r: Arrival) -> Reached
+    ensures { λ z. ⌜ Calls.outcomeOf z ≡ Calls.arrived s1 s2 a r ⌝ }
+{
+    let end = r.end;
+    let ending = end.ending;
+    let address = end.address;
+    let level = end.level;
+    if end::passed(ending) {
+        Reached::To(Translation {
+            address,
+            attributes: combined(s2, a, attributes1(s1, a, r.word1), end.word),
+            level1: r.level1,
+            level2: level,
+        })
+    } else {
+        Reached::Stopped(stop_by(stage_of(r), address, level, ending))
     }
 }

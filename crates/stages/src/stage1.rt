@@ -1,39 +1,32 @@
-// Stage 1: the root for an address, its walk under stage 2, the checks after it, and all together.
+// Stage 1: where an access starts, the checks after its walk, and stage 1 off.
+use crate::range;
+use crate::range::Bounds;
+use crate::range::Range;
 use access::Access;
-use attributes::Decoded;
-use descriptor::entry;
-use descriptor::entry::FaultKind;
+use attributes::MemoryClass;
+use descriptor::entry::Turn;
 use descriptor::permission;
-use walk::check;
-use walk::check::Checked;
-use walk::check::Output;
-use walk::stage2;
-use walk::stage2::Check;
-use walk::stage2::Stage2;
-use walk::stage2::Walk;
-use walk::stop;
-use walk::stop::Open;
-use walk::stop::Stage;
-use walk::stop::Stop;
-use walk::table;
-use walk::table::Leaf;
+use descriptor::turn;
+use walk::end;
+use walk::end::Ending;
+use walk::start;
+use walk::start::Start;
 use walk::table::Root;
-use walk::table::Table;
-use walk::table::Turn;
-use walk::table::Walked;
 ghost use mathlib.Core.Path.{_≡_};
-ghost use mathlib.Core.Bool.{Bool};
-ghost use Prim.Native.Nat.{suc, _+_, _-_, _*_, _/_, _%_, _^_, _≤_};
+ghost use mathlib.Core.Bool.{true, not, _&&_, _||_};
+ghost use Prim.Native.Nat.{suc, _/_, _%_, _^_};
 ghost use lib.Dec.{eqb};
-ghost use lib.ListN.{length};
 ghost use Rattle.bits.specs.Bits.{pick};
-ghost use Rattle.reads.specs.Ran.{Ran};
-ghost use Rattle.descriptor.specs.Entry.{nothing};
-ghost use Rattle.capture.specs.Capture.{captured};
-ghost use Rattle.walk.specs.Walk as Walks;
-ghost use Rattle.walk.specs.Calls.{walked, checked, Small, SmallRoot};
+ghost use Rattle.access.specs.Access.{isFetch, listedSize};
+ghost use Rattle.attributes.specs.Attributes.{classOf, stage1Attributes};
+ghost use Rattle.descriptor.specs.Permission.{stage1Permits};
+ghost use Rattle.descriptor.specs.Turn.{imposed};
+ghost use Rattle.walk.specs.Checks.{misaligned};
+ghost use Rattle.walk.specs.Ends as Ends;
+ghost use Rattle.walk.specs.Calls.{SmallRoot, Starts};
 ghost use Rattle.stages.specs.Stage1 as Definitions;
-ghost use Rattle.stages.specs.Calls.{located};
+ghost use Rattle.stages.specs.Ranges.{Narrow};
+ghost use Rattle.stages.specs.Calls as Calls;
 
 // One VA range of stage 1: its input size in bits, and its root.
 pub struct VaRange {
@@ -60,146 +53,56 @@ pub struct Stage1 {
     pub wxn: bool,
 }
 
-// Where a stage 1 descriptor lies.
-pub enum Located {
-    At(u64),
-    Stopped(Stop),
+// Stage 1 with what its walks go by, worked out once for all addresses.
+pub struct Prepared1 {
+    pub stage: Stage1,
+    pub bounds: Bounds,
+    pub lower: Start,
+    pub upper: Start,
 }
 
-pub struct Place {
-    pub located: Located,
-    pub count: usize,
+// With stage 1 off no walk starts, and nothing is known of its roots.
+fn start_if(on: bool, root: Root) -> Start
+    requires { ⌜ (on ≡ true → SmallRoot root) ⌝ }
+    ensures { λ r. ⌜ (on ≡ true → Starts r root) ⌝ }
+{
+    if on {
+        start::start_of(root)
+    } else {
+        start::nowhere(Ending::Translation, 0)
+    }
 }
 
-// Where a descriptor of stage 1 lies: with stage 2 on, its address is translated first.
-fn place1(
-    bytes: &[u8],
-    base: u64,
-    s: Stage2,
-    a: Access,
-    at: u64,
-    log: &mut [u64],
-    count: usize,
-) -> Place
-    requires { ⌜ SmallRoot (s .root) × (count + 4 ≤ length (now log)) ⌝ }
-    ensures { λ r. ⌜ Ran (captured base (now (bytes .entry))) (Definitions.place1 s a at) (now (log .entry)) count (located (r .located)) (r .count) (now (log .exit)) × (r .count ≤ count + 4) ⌝ }
+pub fn prepare1(s: Stage1) -> Prepared1
+    requires { ⌜ (s .on ≡ true → SmallRoot (s .lower .root) × Narrow (s .lower)) × (s .on ≡ true → SmallRoot (s .upper .root) × Narrow (s .upper)) ⌝ }
+    ensures { λ r. ⌜ (r .stage ≡ s) × Calls.Sound1 r ⌝ }
 {
     let on = s.on;
-    if on {
-        let t = stage2::translate2(bytes, base, s, a, true, at, log, count);
-        let end = t.count;
-        let checked = t.checked;
-        match checked {
-            Checked::Passed(o) => Place {
-                located: Located::At(o.address),
-                count: end,
-            },
-            Checked::Stopped(stop) => Place {
-                located: Located::Stopped(stop),
-                count: end,
-            },
-        }
-    } else {
-        Place {
-            located: Located::At(at),
-            count,
-        }
+    let lower = s.lower;
+    let upper = s.upper;
+    let root0 = lower.root;
+    let root1 = upper.root;
+    Prepared1 {
+        stage: s,
+        bounds: range::bounds_of(s),
+        lower: start_if(on, root0),
+        upper: start_if(on, root1),
     }
 }
 
-// From a table down, each descriptor placed by stage 2 first.
-fn walk1(
-    bytes: &[u8],
-    base: u64,
-    t: Table,
-    s: Stage2,
-    a: Access,
-    log: &mut [u64],
-    count: usize,
-) -> Walk
-    requires { ⌜ Small t × SmallRoot (s .root) × (count + 5 * t .levels ≤ length (now log)) ⌝ }
-    ensures { λ r. ⌜ Ran (captured base (now (bytes .entry))) (Walks.walk (Definitions.place1 s a) (t .geometry) Stage.One (a .address) (t .levels) (t .bits) (t .base) nothing) (now (log .entry)) count (walked (r .walked)) (r .count) (now (log .exit)) × (r .count ≤ count + 5 * t .levels) ⌝ }
+// The start for an address.
+fn start_at(p: Prepared1, address: u64) -> Start
+    requires { ⌜ Calls.Sound1 p × (p .stage .on ≡ true) ⌝ }
+    ensures { λ r. ⌜ Starts r (Definitions.root1At (p .stage) address) ⌝ }
 {
-    let g = t.geometry;
-    let stride = g.stride;
-    let input = a.address;
-    let mut h = entry::nothing();
-    let mut left = t.levels;
-    let mut bits = t.bits;
-    let mut table = t.base;
-    let mut k = count;
-    while 0 < left {
-        left -= 1;
-        let ipa = table::entry_address(g, left, bits, table, input);
-        let place = place1(bytes, base, s, a, ipa, log, k);
-        k = place.count;
-        let located = place.located;
-        match located {
-            Located::Stopped(stop) => {
-                return Walk {
-                    walked: Walked::Stopped(stop),
-                    count: k,
-                };
-            }
-            Located::At(at) => {
-                let entered = table::enter(bytes, base, g, left, at, log, k);
-                k = entered.count;
-                let turn = entered.turn;
-                match turn {
-                    Turn::Over(end) => {
-                        return Walk {
-                            walked: table::end_at(g, Stage::One, left, at, h, end),
-                            count: k,
-                        };
-                    }
-                    Turn::Down { table: next, word } => {
-                        table = next;
-                        bits = stride;
-                        h = entry::inherit(h, word);
-                    }
-                }
-            }
-        }
-    }
-    Walk {
-        walked: Walked::Stopped(stop::fault_at(FaultKind::Translation, Stage::One, 3)),
-        count: k,
-    }
-}
-
-// C counts for data, I for a fetch.
-fn uncached1(s: Stage1, a: Access) -> bool
-    ensures { λ r. ⌜ r ≡ Definitions.uncached1 s a ⌝ }
-{
-    let c = s.c;
-    let i = s.i;
-    if access::is_fetch(a) { !i } else { !c }
-}
-
-// Permission, then a fetch from Device memory.
-fn denied1(s: Stage1, a: Access, device: bool, l: Leaf) -> bool
-    ensures { λ r. ⌜ r ≡ Definitions.denied1 s a device l ⌝ }
-{
-    let inherited = l.inherited;
-    !permission::stage1_permits(s.wxn, a, inherited, l.word) | device & access::is_fetch(a)
-}
-
-// The checks after the walk.
-fn check1(s: Stage1, a: Access, l: Leaf) -> Checked
-    ensures { λ r. ⌜ r ≡ Definitions.check1 s a l ⌝ }
-{
-    let word = l.word;
-    let level = l.level;
-    let stage = Stage::One;
-    match attributes::stage1_attributes(s.mair, uncached1(s, a), word) {
-        Decoded::Unsettled => Checked::Stopped(Stop::Unsettled(Open { stage, level })),
-        Decoded::Settled(attributes) => {
-            let kind = attributes.memory;
-            let device = attributes::is_device(kind);
-            let misaligned = check::misaligned(a, device);
-            let denied = denied1(s, a, device, l);
-            check::permitted(stage, a.address, l, misaligned, denied, attributes)
-        }
+    let bounds = p.bounds;
+    let lower = p.lower;
+    let upper = p.upper;
+    let range = range::range_at(bounds, address);
+    match range {
+        Range::Lower => lower,
+        Range::Upper => upper,
+        Range::Neither => start::nowhere(Ending::Translation, 0),
     }
 }
 
@@ -236,131 +139,105 @@ fn in_pamax(s: Stage1, a: u64) -> bool
     if pamax < 64 { x >> pamax == 0 } else { true }
 }
 
-// Stage 1 off: the address as it is.
-fn stage1_off(s: Stage1, a: Access) -> Checked
-    ensures { λ r. ⌜ r ≡ Definitions.stage1Off s a ⌝ }
+// With stage 1 off all but DC and a fetch is Device memory.
+fn off_device(s: Stage1, a: Access) -> bool
+    ensures { λ r. ⌜ r ≡ Calls.offDevice s a ⌝ }
 {
-    let dc = s.dc;
-    let i = s.i;
-    let input = a.address;
-    if in_pamax(s, input) {
-        let attributes = attributes::stage1_off_attributes(dc, access::is_fetch(a), i);
-        let kind = attributes.memory;
-        if check::misaligned(a, attributes::is_device(kind)) {
-            return Checked::Stopped(Stop::Misaligned(Stage::One));
-        }
-        Checked::Passed(Output {
-            address: input % 0x1_0000_0000_0000,
-            attributes,
-            level: 0,
-        })
-    } else {
-        Checked::Stopped(stop::fault_at(FaultKind::AddressSize, Stage::One, 0))
-    }
+    !s.dc & !access::is_fetch(a)
 }
 
-// An address of ones, as far as its bits count.
-fn ones(s: Stage1, a: u64) -> u64
-    ensures { λ r. ⌜ r ≡ 2 ^ suc (Definitions.top s a) - 1 ⌝ }
+// Stage 1 off: the address as it is, if it is one.
+fn off(s: Stage1, a: Access) -> Ending
+    requires { ⌜ listedSize (a .size) ≡ true ⌝ }
+    ensures { λ r. ⌜ r ≡ Calls.offEnding s a ⌝ }
 {
-    if top(s, a) == 55 {
-        0xff_ffff_ffff_ffff
-    } else {
-        0xffff_ffff_ffff_ffff
-    }
-}
-
-// The bits of x from the input size up are all 0, or in the upper range those of an address of ones.
-fn in_range(x: u64, ones: u64, inputsize: u64, upper: bool) -> bool
-    ensures { λ r. ⌜ r ≡ eqb (x / 2 ^ inputsize) (pick upper (ones / 2 ^ inputsize) 0) ⌝ }
-{
-    if inputsize < 64 {
-        if upper {
-            x >> inputsize == ones >> inputsize
+    if in_pamax(s, a.address) {
+        if off_device(s, a) & access::unaligned(a) {
+            Ending::Misaligned
         } else {
-            x >> inputsize == 0
+            Ending::Passed
         }
     } else {
-        true
+        Ending::AddressSize
     }
 }
 
-fn is_upper(s: Stage1, a: u64) -> bool
-    ensures { λ r. ⌜ r ≡ Definitions.isUpper s a ⌝ }
-{
-    bits::bit(a, top(s, a))
+// Where an access begins: at the entry of a walk of stage 1, or, with stage 1 off, at stage 1's output; or at a fault.
+pub struct Opening {
+    pub ending: Ending,
+    pub level: u64,
+    pub walking: bool,
+    pub start: Start,
+    // Of the entry, or of the output.
+    pub ipa: u64,
 }
 
-// The root of a VA range for an address, if the address lies in it.
-fn root_in(s: Stage1, a: u64, range: VaRange, upper: bool) -> Root
-    ensures { λ r. ⌜ r ≡ pick (eqb (a % 2 ^ suc (Definitions.top s a) / 2 ^ (range .inputsize)) (pick upper ((2 ^ suc (Definitions.top s a) - 1) / 2 ^ (range .inputsize)) 0)) (range .root) (Root.Unusable FaultKind.Translation 0) ⌝ }
+pub(crate) fn opening_of(p: Prepared1, a: Access) -> Opening
+    requires { ⌜ Calls.Sound1 p × (listedSize (a .size) ≡ true) ⌝ }
+    ensures { λ r. ⌜ Calls.Opens p a r ⌝ }
 {
-    let inputsize = range.inputsize;
-    let root = range.root;
-    if in_range(counting(s, a), ones(s, a), inputsize, upper) {
-        root
-    } else {
-        Root::Unusable {
-            kind: FaultKind::Translation,
-            level: 0,
-        }
-    }
-}
-
-// The root for an address.
-pub(crate) fn root1_at(s: Stage1, a: u64) -> Root
-    ensures { λ r. ⌜ r ≡ Definitions.root1At s a ⌝ }
-{
-    let lower = s.lower;
-    let upper = s.upper;
-    if is_upper(s, a) {
-        root_in(s, a, upper, true)
-    } else {
-        root_in(s, a, lower, false)
-    }
-}
-
-// What stage 1 makes of an access, from the root for its address.
-pub(crate) fn translate1(
-    bytes: &[u8],
-    base: u64,
-    s1: Stage1,
-    root: Root,
-    s2: Stage2,
-    a: Access,
-    log: &mut [u64],
-    count: usize,
-) -> Check
-    requires { ⌜ (s1 .on ≡ Bool.true → SmallRoot root) × SmallRoot (s2 .root) × (count + 20 ≤ length (now log)) ⌝ }
-    ensures { λ r. ⌜ Ran (captured base (now (bytes .entry))) (Definitions.translate1 s1 root s2 a) (now (log .entry)) count (checked (r .checked)) (r .count) (now (log .exit)) × (r .count ≤ count + 20) ⌝ }
-{
-    let on = s1.on;
+    let s = p.stage;
+    let on = s.on;
+    let address = a.address;
     if on {
-        match root {
-            Root::Unusable { kind, level } => Check {
-                checked: Checked::Stopped(stop::fault_at(kind, Stage::One, level)),
-                count,
-            },
-            Root::Usable(t) => {
-                let w = walk1(bytes, base, t, s2, a, log, count);
-                let end = w.count;
-                let walked = w.walked;
-                match walked {
-                    Walked::Ended(l) => Check {
-                        checked: check1(s1, a, l),
-                        count: end,
-                    },
-                    Walked::Stopped(stop) => Check {
-                        checked: Checked::Stopped(stop),
-                        count: end,
-                    },
-                }
+        let start = start_at(p, address);
+        let ending = start.ending;
+        let table = start.table;
+        Opening {
+            ending,
+            level: start.level,
+            walking: true,
+            start,
+            ipa: start::first_entry(table, start.shift, address),
+        }
+    } else {
+        Opening {
+            ending: off(s, a),
+            level: 0,
+            walking: false,
+            start: start::nowhere(Ending::Passed, 0),
+            ipa: address % 0x1_0000_0000_0000,
+        }
+    }
+}
+
+// The checks after the walk, by the leaf's descriptor and what its tables impose.
+fn check1(s: Stage1, a: Access, tables: u64, x: u64) -> Ending
+    requires { ⌜ listedSize (a .size) ≡ true ⌝ }
+    ensures { λ r. ⌜ r ≡ Calls.ending1 s a tables x ⌝ }
+{
+    let class = attributes::stage1_class(s.mair, x);
+    match class {
+        MemoryClass::Unsettled => Ending::Unsettled,
+        MemoryClass::Device => {
+            if access::unaligned(a) {
+                Ending::Misaligned
+            } else if !permission::stage1_permits(s.wxn, a, turn::imposed(tables), x)
+                | access::is_fetch(a)
+            {
+                Ending::Permission
+            } else {
+                Ending::Passed
             }
         }
-    } else {
-        Check {
-            checked: stage1_off(s1, a),
-            count,
+        MemoryClass::Normal => {
+            if permission::stage1_permits(s.wxn, a, turn::imposed(tables), x) {
+                Ending::Passed
+            } else {
+                Ending::Permission
+            }
         }
+    }
+}
+
+// What stage 1 makes of an entry that does not lead down.
+pub(crate) fn at_entry(s: Stage1, a: Access, tables: u64, turn: Turn, x: u64) -> Ending
+    requires { ⌜ listedSize (a .size) ≡ true ⌝ }
+    ensures { λ r. ⌜ r ≡ pick (Ends.isLeaf turn) (Calls.ending1 s a tables x) (Ends.over turn) ⌝ }
+{
+    if end::is_leaf(turn) {
+        check1(s, a, tables, x)
+    } else {
+        end::over(turn)
     }
 }

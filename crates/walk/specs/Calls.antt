@@ -1,21 +1,21 @@
--- For the contracts of code: what its answers stand for, and the roots that a walk may be called with.
+-- For the contracts of code: what checks give, and the starts that a walk may be called with.
 -- Assumes nothing.
-use Prim.Native.Nat.{_≤_, _<_, _^_}
+use mathlib.Core.Path.{_≡_}
+use Prim.Native.Nat.{_-_, _≤_, _<_, _^_}
 use Rattle.reads.specs.Program.{Outcome, reached, stopped}
+use Rattle.descriptor.specs.Entry.{shift}
+use Rattle.descriptor.specs.Turn.{limit, masksOf}
+use Rattle.walk.specs.Ends.{faulted}
 use Rattle.walk.specs.declared.stop.Stop.{Stop}
-use Rattle.walk.specs.declared.table.Leaf.{Leaf}
 use Rattle.walk.specs.declared.table.Table.{Table}
 use Rattle.walk.specs.declared.table.Root.{Root}
 use Rattle.walk.specs.declared.table.Root.the-variants.{Unusable, Usable}
-use Rattle.walk.specs.declared.table.Walked.{Walked}
-use Rattle.walk.specs.declared.table.Walked.the-variants as W
 use Rattle.walk.specs.declared.check.Output.{Output}
 use Rattle.walk.specs.declared.check.Checked.{Checked}
 use Rattle.walk.specs.declared.check.Checked.the-variants as C
-
-unfoldable pub walked : Walked → Outcome Stop Leaf
-walked (W.Ended l) = reached l
-walked (W.Stopped e) = stopped e
+use Rattle.walk.specs.declared.end.Ending.the-variants.{Passed}
+use Rattle.walk.specs.declared.start.Start.{Start}
+use Rattle.walk.specs.declared.stage2.Prepared2.{Prepared2}
 
 unfoldable pub checked : Checked → Outcome Stop Output
 checked (C.Passed o) = reached o
@@ -23,12 +23,38 @@ checked (C.Stopped e) = stopped e
 
 -- sizes with which no address of a walk leaves 64 bits. Every root that registers give has them (regime/proofs/Ready.antt).
 pub record Small (t : Table) : Type 0 where
+  pub some : 1 ≤ t .levels
   pub levels : t .levels ≤ 4
   pub bits : t .bits ≤ 16
   pub base : t .base < 2 ^ 48
   pub grainsize : t .geometry .grainsize ≤ 16
   pub stride : t .geometry .stride ≤ 13
+  pub block : 1 ≤ t .geometry .block
+  pub shift : shift (t .geometry) (t .levels - 1) < 48
 
 abbrev pub SmallRoot : Root → Type 0
 SmallRoot (Unusable kind level) = Unit {0}
 SmallRoot (Usable t) = Small t
+
+-- the words of a start are those of its table
+pub record Fit (p : Start) : Type 0 where
+  pub shift : p .shift ≡ shift (p .table .geometry) (p .table .levels - 1)
+  pub masks : p .masks ≡ masksOf (p .table .geometry)
+  pub small : Small (p .table)
+
+-- sizes of a start, of use or not, with which the address of its first entry fits
+pub record Within (p : Start) : Type 0 where
+  pub shift : p .shift < 64
+  pub some : 1 ≤ p .table .levels
+  pub bits : p .table .bits ≤ 16
+  pub base : p .table .base < 2 ^ 48
+
+-- a start for a root
+abbrev pub Starts : Start → Root → Type 0
+Starts p (Unusable kind level) = (p .ending ≡ faulted kind) × (p .level ≡ level) × Within p
+Starts p (Usable t) = (p .ending ≡ Passed) × (p .table ≡ t) × Fit p
+
+-- stage 2's words are those of the stage
+pub record Sound2 (p : Prepared2) : Type 0 where
+  pub limit : p .limit ≡ limit (p .stage .inputsize)
+  pub start : Starts (p .start) (p .stage .root)

@@ -1,5 +1,5 @@
 pub mod Walk
 pub mod Checks
 pub mod Stage2
+pub mod Ends
 pub mod Calls
-pub mod Entered

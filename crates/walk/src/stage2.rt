@@ -1,31 +1,32 @@
-// Stage 2: its walk, the checks after it, and both together.
-use crate::check;
-use crate::check::Checked;
-use crate::stop;
-use crate::stop::Open;
-use crate::stop::Stage;
-use crate::stop::Stop;
-use crate::table;
-use crate::table::Leaf;
+// Stage 2: its walk and the checks after it.
+use crate::end;
+use crate::end::End;
+use crate::end::Ending;
+use crate::start;
+use crate::start::Start;
 use crate::table::Root;
-use crate::table::Table;
-use crate::table::Turn;
-use crate::table::Walked;
 use access::Access;
-use attributes::Decoded;
+use attributes::MemoryClass;
 use descriptor::entry;
-use descriptor::entry::FaultKind;
 use descriptor::permission;
+use descriptor::turn;
+use reads::Read;
 ghost use mathlib.Core.Path.{_≡_};
-ghost use Prim.Native.Nat.{_+_, _≤_};
+ghost use mathlib.Core.Bool.{true, not, _&&_, _||_};
+ghost use Prim.Native.Nat.{_+_, _≤_, _^_};
 ghost use lib.ListN.{length};
-ghost use Rattle.reads.specs.Program.{done};
+ghost use Rattle.reads.specs.Program.{done, bind};
 ghost use Rattle.reads.specs.Ran.{Ran};
-ghost use Rattle.descriptor.specs.Entry.{nothing};
+ghost use Rattle.access.specs.Access.{isFetch, listedSize};
+ghost use Rattle.attributes.specs.Attributes.{classOf, stage2Attributes};
 ghost use Rattle.capture.specs.Capture.{captured};
-ghost use Rattle.walk.specs.Walk as Walks;
+ghost use Rattle.walk.specs.Walk.{walkFrom};
+ghost use Rattle.walk.specs.Checks.{misaligned, give};
 ghost use Rattle.walk.specs.Stage2 as Definitions;
-ghost use Rattle.walk.specs.Calls.{walked, checked, Small, SmallRoot};
+ghost use Rattle.walk.specs.declared.stop.Stage.the-variants as Stages;
+ghost use Rattle.walk.specs.declared.table.Root.the-variants as Roots;
+ghost use Rattle.walk.specs.Ends as Ends;
+ghost use Rattle.walk.specs.Calls.{SmallRoot, Sound2, Fit};
 
 // What registers say of stage 2.
 pub struct Stage2 {
@@ -39,159 +40,145 @@ pub struct Stage2 {
     pub ptw: bool,
 }
 
-pub struct Walk {
-    pub walked: Walked,
-    pub count: usize,
+// Stage 2 with what its walks go by, worked out once for all addresses.
+pub struct Prepared2 {
+    pub stage: Stage2,
+    // An IPA from here on is beyond the input size.
+    pub limit: u64,
+    pub start: Start,
 }
 
-// From a table down; each read's address goes into the log from count on.
-fn walk2(
-    bytes: &[u8],
-    base: u64,
-    t: Table,
-    ipa: u64,
-    onwalk: bool,
-    log: &mut [u64],
-    count: usize,
-) -> Walk
-    requires { ⌜ Small t × (count + t .levels ≤ length (now log)) ⌝ }
-    ensures { λ r. ⌜ Ran (captured base (now (bytes .entry))) (Walks.walk done (t .geometry) (Stage.Two ipa onwalk) ipa (t .levels) (t .bits) (t .base) nothing) (now (log .entry)) count (walked (r .walked)) (r .count) (now (log .exit)) × (r .count ≤ count + t .levels) ⌝ }
+pub fn prepare2(s: Stage2) -> Prepared2
+    requires { ⌜ SmallRoot (s .root) ⌝ }
+    ensures { λ r. ⌜ (r .stage ≡ s) × Sound2 r ⌝ }
 {
-    let g = t.geometry;
-    let stride = g.stride;
-    let free = entry::nothing();
-    let mut left = t.levels;
-    let mut bits = t.bits;
-    let mut table = t.base;
-    let mut k = count;
-    while 0 < left {
-        left -= 1;
-        let at = table::entry_address(g, left, bits, table, ipa);
-        let entered = table::enter(bytes, base, g, left, at, log, k);
-        k = entered.count;
-        let turn = entered.turn;
-        match turn {
-            Turn::Over(end) => {
-                return Walk {
-                    walked: table::end_at(g, Stage::Two { ipa, onwalk }, left, at, free, end),
-                    count: k,
-                };
-            }
-            Turn::Down {
-                table: next,
-                word: _,
-            } => {
-                table = next;
-                bits = stride;
-            }
-        }
-    }
-    Walk {
-        walked: Walked::Stopped(stop::fault_at(
-            FaultKind::Translation,
-            Stage::Two { ipa, onwalk },
-            3,
-        )),
-        count: k,
-    }
-}
-
-// CD counts for data and on-walk, ID for a fetch's own walk.
-fn uncached2(s: Stage2, a: Access, onwalk: bool) -> bool
-    ensures { λ r. ⌜ r ≡ Definitions.uncached2 s a onwalk ⌝ }
-{
-    let id = s.id;
-    let cd = s.cd;
-    if access::is_fetch(a) {
-        if onwalk { cd } else { id }
-    } else {
-        cd
+    let root = s.root;
+    let inputsize = s.inputsize;
+    Prepared2 {
+        stage: s,
+        limit: turn::limit(inputsize),
+        start: start::start_of(root),
     }
 }
 
 // A fetch from Device memory is refused, and on-walk any access to it with PTW set.
-fn refused2(s: Stage2, a: Access, onwalk: bool, device: bool) -> bool
-    ensures { λ r. ⌜ r ≡ Definitions.refused2 s a onwalk device ⌝ }
+fn refused2(ptw: bool, a: Access, onwalk: bool) -> bool
+    ensures { λ r. ⌜ r ≡ (isFetch a || (onwalk && ptw)) ⌝ }
 {
-    device & (access::is_fetch(a) | onwalk & s.ptw)
+    access::is_fetch(a) | onwalk & ptw
 }
 
-// Permission, then what Device memory refuses.
-fn denied2(s: Stage2, a: Access, onwalk: bool, device: bool, x: u64) -> bool
-    ensures { λ r. ⌜ r ≡ Definitions.denied2 s a onwalk device x ⌝ }
+// The checks after the walk, by the leaf's descriptor. Alignment is never tested on-walk.
+fn check2(s: Stage2, a: Access, onwalk: bool, x: u64) -> Ending
+    requires { ⌜ listedSize (a .size) ≡ true ⌝ }
+    ensures { λ r. ⌜ r ≡ Ends.verdict (λ d. not onwalk && misaligned a d) (λ d. Definitions.denied2 s a onwalk d x) (classOf (stage2Attributes (Definitions.uncached2 s a onwalk) x)) ⌝ }
 {
-    !permission::stage2_permits(onwalk, a, x) | refused2(s, a, onwalk, device)
-}
-
-// The checks after the walk. Alignment is never tested on-walk.
-fn check2(s: Stage2, a: Access, onwalk: bool, ipa: u64, l: Leaf) -> Checked
-    ensures { λ r. ⌜ r ≡ Definitions.check2 s a onwalk ipa l ⌝ }
-{
-    let word = l.word;
-    let level = l.level;
-    let stage = Stage::Two { ipa, onwalk };
-    match attributes::stage2_attributes(uncached2(s, a, onwalk), word) {
-        Decoded::Unsettled => Checked::Stopped(Stop::Unsettled(Open { stage, level })),
-        Decoded::Settled(attributes) => {
-            let kind = attributes.memory;
-            let device = attributes::is_device(kind);
-            let misaligned = !onwalk & check::misaligned(a, device);
-            let denied = denied2(s, a, onwalk, device, word);
-            check::permitted(stage, ipa, l, misaligned, denied, attributes)
+    let ptw = s.ptw;
+    let class = attributes::stage2_class(x);
+    match class {
+        MemoryClass::Unsettled => Ending::Unsettled,
+        MemoryClass::Device => {
+            if !onwalk & access::unaligned(a) {
+                Ending::Misaligned
+            } else if !permission::stage2_permits(onwalk, a, x) | refused2(ptw, a, onwalk) {
+                Ending::Permission
+            } else {
+                Ending::Passed
+            }
+        }
+        MemoryClass::Normal => {
+            if permission::stage2_permits(onwalk, a, x) {
+                Ending::Passed
+            } else {
+                Ending::Permission
+            }
         }
     }
 }
 
-pub struct Check {
-    pub checked: Checked,
-    pub count: usize,
+// From the root down; each read's address goes into the log from count on.
+fn walk2(
+    bytes: &[u8],
+    base: u64,
+    p: Prepared2,
+    a: Access,
+    onwalk: bool,
+    ipa: u64,
+    log: &mut [u64],
+    count: usize,
+) -> End
+    requires { ⌜ Fit (p .start) × (listedSize (a .size) ≡ true) × (base + length (now bytes) ≤ 2 ^ 64) × (count + p .start .table .levels ≤ length (now log)) ⌝ }
+    ensures { λ r. ⌜ Ran (captured base (now (bytes .entry))) (bind (walkFrom done (Stages.Two ipa onwalk) ipa (Roots.Usable (p .start .table))) (λ l. give (Definitions.check2 (p .stage) a onwalk ipa l))) (now (log .entry)) count (Ends.ended (Stages.Two ipa onwalk) (stage2Attributes (Definitions.uncached2 (p .stage) a onwalk)) r) (r .count) (now (log .exit)) × (r .count ≤ count + p .start .table .levels) ⌝ }
+{
+    let s = p.stage;
+    let start = p.start;
+    let masks = start.masks;
+    let table = start.table;
+    let g = table.geometry;
+    let stride = g.stride;
+    let levels = table.levels;
+    let mut left = levels - 1;
+    let mut shift = start.shift;
+    let mut at = start::first_entry(table, shift, ipa);
+    let mut k = count;
+    loop {
+        match capture::read(bytes, base, at) {
+            Read::Absent => {
+                return End {
+                    ending: Ending::Absent,
+                    address: at,
+                    word: 0,
+                    level: 3 - left,
+                    count: k,
+                };
+            }
+            Read::Word(x) => {
+                log[k] = at;
+                k += 1;
+                let turn = turn::turn(g, masks, left, x);
+                if end::leads_down(turn) {
+                    left -= 1;
+                    shift -= stride;
+                    at = turn::next_entry(g, masks, x, ipa, shift);
+                } else if end::is_leaf(turn) {
+                    return End {
+                        ending: check2(s, a, onwalk, x),
+                        address: entry::output_address(x, shift, ipa),
+                        word: x,
+                        level: 3 - left,
+                        count: k,
+                    };
+                } else {
+                    return end::stopped(end::over(turn), 3 - left, k);
+                }
+            }
+        }
+    }
 }
 
 // Where stage 2 puts an IPA.
 pub fn translate2(
     bytes: &[u8],
     base: u64,
-    s: Stage2,
+    p: Prepared2,
     a: Access,
     onwalk: bool,
     ipa: u64,
     log: &mut [u64],
     count: usize,
-) -> Check
-    requires { ⌜ SmallRoot (s .root) × (count + 4 ≤ length (now log)) ⌝ }
-    ensures { λ r. ⌜ Ran (captured base (now (bytes .entry))) (Definitions.translate2 s a onwalk ipa) (now (log .entry)) count (checked (r .checked)) (r .count) (now (log .exit)) × (r .count ≤ count + 4) ⌝ }
+) -> End
+    requires { ⌜ Sound2 p × (listedSize (a .size) ≡ true) × (base + length (now bytes) ≤ 2 ^ 64) × (count + 4 ≤ length (now log)) ⌝ }
+    ensures { λ r. ⌜ Ran (captured base (now (bytes .entry))) (Definitions.translate2 (p .stage) a onwalk ipa) (now (log .entry)) count (Ends.ended (Stages.Two ipa onwalk) (stage2Attributes (Definitions.uncached2 (p .stage) a onwalk)) r) (r .count) (now (log .exit)) × (r .count ≤ count + 4) ⌝ }
 {
-    let inputsize = s.inputsize;
-    let root = s.root;
-    if bits::beyond(ipa, inputsize) {
-        return Check {
-            checked: Checked::Stopped(stop::fault_at(
-                FaultKind::Translation,
-                Stage::Two { ipa, onwalk },
-                0,
-            )),
-            count,
-        };
+    let limit = p.limit;
+    let start = p.start;
+    let ending = start.ending;
+    if limit <= ipa % 0x1_0000_0000_0000 {
+        return end::stopped(Ending::Translation, 0, count);
     }
-    match root {
-        Root::Unusable { kind, level } => Check {
-            checked: Checked::Stopped(stop::fault_at(kind, Stage::Two { ipa, onwalk }, level)),
-            count,
-        },
-        Root::Usable(t) => {
-            let w = walk2(bytes, base, t, ipa, onwalk, log, count);
-            let end = w.count;
-            let walked = w.walked;
-            match walked {
-                Walked::Ended(l) => Check {
-                    checked: check2(s, a, onwalk, ipa, l),
-                    count: end,
-                },
-                Walked::Stopped(stop) => Check {
-                    checked: Checked::Stopped(stop),
-                    count: end,
-                },
-            }
-        }
+    if end::passed(ending) {
+        walk2(bytes, base, p, a, onwalk, ipa, log, count)
+    } else {
+        end::stopped(ending, start.level, count)
     }
 }

@@ -10,4 +10,5 @@ unaligned-spec =
     (tie.spec
     (λ c κs. search needs)
     (λ c κs. search needs)
-    (λ c. simp (c .remainder .ensures, c .before .is-fetch .ensures)))
+    (λ c. rw (← c .before .is-fetch .ensures, c .if1 .taken))
+    (λ c. rw (← c .before .before .is-fetch .ensures, c .before .if1 .left, c .remainder .ensures)))

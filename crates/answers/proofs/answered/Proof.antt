@@ -2,12 +2,12 @@
 -- Assumes nothing.
 use borrow.Author.Needs.{needs}
 use Rattle.answers.specs.Answers.{answer}
-use Rattle.stages.specs.Calls.{arrived}
+use Rattle.stages.specs.Calls.{outcomeOf}
 use Rattle.answers.proofs.answered.Statement.{statement}
 use Rattle.answers.proofs.answered.Tie as tie
 
 pub answered-spec : {M : Type 1} → statement M
-unfolding answer arrived
+unfolding answer outcomeOf
 answered-spec =
     tie.close
     (tie.spec

@@ -1,11 +1,10 @@
--- `translate` meets its contract: the verdict, and then the access.
+-- `translate` meets its contract: the verdict, and then the access, as a list of one address.
 -- Assumes nothing.
 use borrow.Author.Needs.{needs}
 use borrow.Author.Tests.{lt-ltb}
-use mathlib.Core.Path.{sym, _∙_}
+use mathlib.Core.Path.{refl, sym, _∙_}
 use lib.ListN.{length}
-use Rattle.regime.proofs.Ready.{ready}
-use Rattle.answers.proofs.Refusals.{accepted-settings}
+use Rattle.answers.proofs.Refusals.{accepted-settings, accepted-capture, accepted-size}
 use Rattle.answers.proofs.Counts.{counts}
 use Rattle.answers.proofs.Framing.{framing}
 use Rattle.question.proofs.Telling.{tells-short, tells-refused, tells-ran}
@@ -15,12 +14,19 @@ use Rattle.question.proofs.translate.Tie as tie
 returns : tie.Need-returns
 returns c = (tells-short _ _ _ _ _ _ (lt-ltb _ _ (c .if1 .taken)), (counts _ _ _ _ _ _, λ other. framing _ _ _ _ _ _ _))
 
-access-requires : tie.Need-access-requires
-access-requires c κs =
-    let told = c .before .before .before in
-    let z = told .before .before .before .before .before .before .args in
-    let accepted = accepted-settings (z .base) (length (z .bytes .now)) (z .r) (z .g) (z .a .kind) (z .a .el) (z .a .size) (sym (told .before .before .shared-verdict .ensures) ∙ told .enum-told .given .1) in
-    (rw (c .before .before .stage1 .ensures, c .before .stage2 .ensures) (ready (z .r) (z .g) accepted (z .a .address)), search needs)
+each-requires : tie.Need-each-requires
+each-requires c κs =
+    let told = c .before .before .before .before in
+    let v = told .before .before in
+    let z = v .before .before .before .before .args in
+    let accepted = sym (v .shared-verdict .ensures) ∙ told .enum-told .given .1 in (
+      accepted-settings (z .base) (length (z .bytes .now)) (z .r) (z .g) (z .a .kind) (z .a .el) (z .a .size) accepted,
+      accepted-size (z .base) (length (z .bytes .now)) (z .r) (z .g) (z .a .kind) (z .a .el) (z .a .size) accepted,
+      accepted-capture (z .base) (length (z .bytes .now)) (z .r) (z .g) (z .a .kind) (z .a .el) (z .a .size) accepted,
+      search needs,
+      refl,
+      refl,
+    )
 
 returns-2 : tie.Need-returns-2
 returns-2 c =
@@ -31,12 +37,10 @@ returns-2 c =
 
 returns-3 : tie.Need-returns-3
 returns-3 c =
-    let ran = c .before .before .before in
-    let stages = ran .before .before in
-    let told = stages .before .before in
+    let ran = c .before .before .before .before .before in
+    let told = ran .before .before .before .before .before in
     let v = told .before .before in (
-      tells-ran _ _ _ _ _ _ (v .before .if1 .left) _ _ _ _ (sym (v .shared-verdict .ensures) ∙ told .enum-told .given .1)
-          (rw (stages .before .stage1 .ensures, stages .stage2 .ensures) at (ran .access .ensures .0)) (c .answered .ensures),
+      tells-ran _ _ _ _ _ _ (v .before .if1 .left) _ _ _ _ (sym (v .shared-verdict .ensures) ∙ told .enum-told .given .1) (ran .each .ensures .single _ refl) (c .answered .ensures),
       (counts _ _ _ _ _ _, λ other. framing _ _ _ _ _ _ _),
     )
 
@@ -48,9 +52,10 @@ translate-spec =
     (λ c κs. search needs)
     (λ c. search needs)
     (λ c. search needs)
-    (λ c κs. search needs)
-    (λ c κs. search needs)
-    access-requires
+    (λ c. search needs)
+    (λ c. search needs)
+    (λ c. search needs)
+    each-requires
     (λ c κs. search needs)
     returns-2
     (λ c. search needs)

@@ -1,6 +1,8 @@
 -- `entry::output_address` meets its contract: the two parts do not overlap, so the sum fits.
 -- Assumes nothing.
-use Rattle.bits.proofs.Shifts.{joined-fits}
+use native.Mathlib.Omega.{arith}
+use lib.Pow.{pow-pos}
+use Rattle.bits.proofs.Shifts.{one-shl, shl-back, joined-fits}
 use borrow.Author.Needs.{needs}
 use Rattle.descriptor.proofs.entry.output_address.Statement.{statement}
 use Rattle.descriptor.proofs.entry.output_address.Tie as tie
@@ -9,7 +11,9 @@ pub output-address-spec : {M : Type 1} → statement M
 output-address-spec =
     tie.close
     (tie.spec
-    (λ c κs. search needs)
-    (λ c κs. search needs)
-    (λ c. rw (c .before .upper .ensures, c .lower .ensures) (record { fits = joined-fits (c .before .before .args .x) (c .before .before .args .t) (c .before .before .fits .input .fits) }))
-    (λ c. search needs))
+    (λ c. search needs)
+    (λ c. search needs)
+    (λ c. search needs)
+    (λ c. omega (arith, one-shl (c .args .t) (omega (arith, c .pre)), pow-pos (c .args .t)))
+    (λ c. rw (shl-back (c .args .x) (c .args .t), one-shl (c .args .t) (omega (arith, c .pre))) (record { fits = joined-fits (c .args .x) (c .args .t) (search needs) }))
+    (λ c. rw (shl-back (c .args .x) (c .args .t), one-shl (c .args .t) (omega (arith, c .pre)))))

@@ -12,5 +12,5 @@ limit-spec =
     tie.close
     (tie.spec
     (λ c. search needs)
-    (λ c. rw (one-shl (c .before .args .outputsize) (omega arith)) (search choices))
+    (λ c. rw (one-shl (c .before .args .size) (omega arith)) (search choices))
     (λ c. search choices))

@@ -1,59 +1,71 @@
--- `translate2` meets its contract.
+-- `translate2` meets its contract: beyond the input size, at a root that is of no use, or by its walk.
 -- Assumes nothing.
 use borrow.Author.Needs.{needs}
-use mathlib.Core.Path.{sym, _∙_}
+use borrow.Author.Tests.{le-leb, lt-leb}
+use mathlib.Core.Path.{_≡_, sym, _∙_}
+use mathlib.Core.Bool.{false}
 use native.Mathlib.Omega.{arith}
-use Rattle.walk.proofs.Calls.{ran-outside, ran-unusable, ran-walk-stopped, ran-walk-checked}
+use Rattle.bits.specs.Bits.{beyond}
+use Rattle.descriptor.proofs.Masks.{beyond-limit}
+use Rattle.attributes.specs.Attributes.{stage2Attributes}
+use Rattle.walk.specs.Stage2.{uncached2}
+use Rattle.walk.specs.Ends.{faulted}
+use Rattle.walk.specs.declared.table.Root.the-variants.{Usable}
+use Rattle.walk.specs.Calls.{Fit}
+use Rattle.walk.proofs.Ends.{starts-usable, starts-unusable}
+use Rattle.walk.proofs.Calls.{ran-outside, ran-unusable, ran-usable}
 use Rattle.walk.proofs.stage2.translate2.Statement.{statement}
 use Rattle.walk.proofs.stage2.translate2.Tie as tie
 
-walk2-requires : tie.Need-walk2-requires
-walk2-requires c κs =
-    let small = rw (c .before .before .root2 .given .1) at (c .before .before .before .before .before .before .before .before .pre .0) in
-    (small, omega (arith, small .levels, c .before .before .before .before .before .before .before .before .pre .1))
+-- the IPA lies within the input size
+inside : (c : tie.Else1) → let z = c .before .before .before .before .args in beyond (z .ipa) (z .p .stage .inputsize) ≡ false
+inside c =
+    let z = c .before .before .before .before .args in
+    sym (beyond-limit (z .ipa) (z .p .stage .inputsize)) ∙ lt-leb _ _ (rw (c .before .before .before .before .pre .0 .limit) at (c .if1 .left))
+
+-- the walk from a root that is of use
+usable : (c : tie.After-walk2-arg) → let p = c .before .before .before .before .before .before .before .args .p in (p .stage .root ≡ Usable (p .start .table)) × Fit (p .start)
+usable c = starts-usable _ _ (c .before .before .before .before .before .before .before .pre .0 .start) (sym (c .before .before .passed .ensures) ∙ c .before .if2 .taken)
 
 returns : tie.Need-returns
-returns c = (rw (c .fault-at .ensures) (ran-outside _ _ _ _ _ (sym (c .before .before .beyond .ensures) ∙ c .before .if1 .taken)), omega arith)
+unfolding faulted
+returns c =
+    let z = c .before .before .before .before .before .args in
+    rw (c .stopped .ensures)
+    ((
+      ran-outside _ (z .p .stage) (z .a) (z .onwalk) (z .ipa) (stage2Attributes (uncached2 (z .p .stage) (z .a) (z .onwalk)))
+          (sym (beyond-limit (z .ipa) (z .p .stage .inputsize)) ∙ le-leb _ _ (rw (c .before .before .before .before .before .pre .0 .limit) at (c .before .if1 .taken))),
+      omega arith,
+    ))
+
+walk2-requires : tie.Need-walk2-requires
+walk2-requires c κs =
+    let p = c .before .before .before .before .before .before .before .pre in
+    (usable c .1, p .1, p .2, omega (arith, usable c .1 .small .levels, p .3))
 
 returns-2 : tie.Need-returns-2
-returns-2 c = (rw (c .fault-at2 .ensures) (ran-unusable _ _ _ _ _ (sym (c .before .before .before .before .before .beyond .ensures) ∙ c .before .before .before .before .if1 .left) (c .before .before .root .given .1)), omega arith)
+returns-2 c =
+    let w = c .before .before in
+    let u = usable (w .before) in (
+      ran-usable _ _ _ _ _ (inside (w .before .before .before .before)) (u .0) (w .walk2 .ensures .0),
+      omega (arith, u .1 .small .levels, w .walk2 .ensures .1),
+    )
 
 returns-3 : tie.Need-returns-3
 returns-3 c =
-    let w = c .before .before .before .before .before .before in
-    let r = w .before .before .before in
-    let small = rw (r .root2 .given .1) at (r .before .before .before .before .before .before .pre .0) in (
-      ran-walk-checked _ _ _ _ _ (sym (r .before .before .before .beyond .ensures) ∙ r .before .before .if1 .left) (r .root2 .given .1) _ _
-          (rw (c .before .before .walked .given .1) at (w .walk2 .ensures .0)) (c .check2 .ensures),
-      omega (arith, small .levels, w .walk2 .ensures .1),
-    )
-
-returns-4 : tie.Need-returns-4
-returns-4 c =
-    let w = c .before .before .before .before .before in
-    let r = w .before .before .before in
-    let small = rw (r .root2 .given .1) at (r .before .before .before .before .before .before .pre .0) in (
-      ran-walk-stopped _ _ _ _ _ (sym (r .before .before .before .beyond .ensures) ∙ r .before .before .if1 .left) (r .root2 .given .1) _
-          (rw (c .before .walked2 .given .1) at (w .walk2 .ensures .0)),
-      omega (arith, small .levels, w .walk2 .ensures .1),
-    )
+    let z = c .before .before .before .before .before .before .before .args in
+    let u = starts-unusable _ _ (c .before .before .before .before .before .before .before .pre .0 .start) (sym (c .before .before .passed .ensures) ∙ c .before .if2 .left) in
+    rw (c .stopped2 .ensures, u .2) ((ran-unusable _ (z .p .stage) (z .a) (z .onwalk) (z .ipa) (inside (c .before .before .before)) (stage2Attributes (uncached2 (z .p .stage) (z .a) (z .onwalk))) (u .0) _ (u .1), omega arith))
 
 pub translate2-spec : {M : Type 1} → statement M
 translate2-spec =
     tie.close
     (tie.spec
     (λ c κs. search needs)
-    (λ c κs. search needs)
     returns
-    (λ c. search needs)
     (λ c κs. search needs)
-    (λ c. search needs)
     walk2-requires
-    (λ c. search needs)
     (λ c κs. search needs)
     (λ c. search needs)
     returns-2
-    (λ c. search needs)
-    returns-3
-    (λ c. search needs)
-    returns-4)
+    returns-3)

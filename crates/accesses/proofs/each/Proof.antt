@@ -1,0 +1,111 @@
+-- `each` meets its contract: what is stored from an address on is what is stored from the first.
+-- Assumes nothing.
+use borrow.Author.Needs.{needs, scaled-fits}
+use mathlib.Core.Path.{sym, _∙_}
+use mathlib.Core.List.{map-map}
+use Prim.Native.Nat.{ℕ, _-_}
+use native.Mathlib.Omega.{arith}
+use lib.ListN.{length}
+use Rattle.access.specs.declared.Access.{Access}
+use Rattle.capture.specs.Capture.{captured}
+use Rattle.stages.specs.Calls.{arrived}
+use Rattle.regime.proofs.Ready.{walkable}
+use Rattle.answers.specs.Answers.{number}
+use Rattle.answers.specs.Entries.{answerOf, outputOf}
+use Rattle.answers.proofs.Entries.{ran-number, ran-output}
+use Rattle.accesses.proofs.Filling.{Filling, filling-start, filling-next, filling-done}
+use Rattle.accesses.proofs.Runs.{Runs, runs-start, runs-next, runs-done}
+use Rattle.accesses.proofs.each.Statement.{statement}
+use Rattle.accesses.proofs.each.Tie as tie
+
+-- the access to an address
+abbrev to : (kind el size address : ℕ) → Access
+to kind el size address = record { address = address; kind = kind; el = el; size = size }
+
+abbrev Inv-loop : tie.InvT-loop
+Inv-loop bytes base kind el size addresses outputs₀ numbers₀ log₀ s1 s2 p q last₀ i₀ outputs numbers log last i =
+    Filling (λ x. outputOf (answerOf (captured base bytes) (p .stage) (q .stage) (to kind el size x))) addresses outputs₀ outputs i
+    × Filling (λ x. number (answerOf (captured base bytes) (p .stage) (q .stage) (to kind el size x))) addresses numbers₀ numbers i
+    × Runs (captured base bytes) (p .stage) (q .stage) (to kind el size) addresses log₀ log last i
+
+abbrev μ-loop : tie.MeasureT-loop
+μ-loop bytes base kind el size addresses outputs₀ numbers₀ log₀ s1 s2 p q last₀ i₀ outputs numbers log last i = length addresses - i
+
+prepare1-requires : tie.Need-prepare1-requires Inv-loop μ-loop
+prepare1-requires c κs =
+    let w = walkable _ _ (c .before .before .before .before .before .before .before .pre .0) in
+    rw (c .before .stage1 .ensures) ((w .lower, w .upper))
+
+prepare2-requires : tie.Need-prepare2-requires Inv-loop μ-loop
+prepare2-requires c κs = rw (c .before .stage2 .ensures) (walkable _ _ (c .before .before .before .before .before .before .before .before .pre .0) .second)
+
+access-requires : tie.Need-access-requires Inv-loop μ-loop
+access-requires c κs =
+    let l = c .before .before .before in
+    let p = l .before .before .before .before .before .before .before .before .before .before .before .pre in
+    (l .before .before .before .prepare1 .ensures .1, l .before .before .prepare2 .ensures .1, p .1, p .2, omega (arith, l .loop .inv .2 .same, p .3))
+
+slice-write-outputs : tie.Need-slice-write-outputs Inv-loop μ-loop
+slice-write-outputs c =
+    let l = c .before .before .before .before .before .before .before .before in
+    omega (arith, c .before .before .before .before .before .before .before .loop-test .taken, l .loop .inv .0 .same, l .before .before .before .before .before .before .before .before .before .before .before .pre .4)
+
+slice-write-numbers : tie.Need-slice-write-numbers Inv-loop μ-loop
+slice-write-numbers c =
+    let l = c .before .before .before .before .before .before .before .before .before in
+    omega (arith, c .before .before .before .before .before .before .before .before .loop-test .taken, l .loop .inv .1 .same, l .before .before .before .before .before .before .before .before .before .before .before .pre .5)
+
+loop-again : tie.Need-loop-again Inv-loop μ-loop
+loop-again c =
+    let l = c .before .before .before .before .before .before .before .before .before in
+    let less = c .before .before .before .before .before .before .before .before .loop-test .taken in
+    let ran = c .before .before .before .before .before .access .ensures .0 in (
+      filling-next _ _ _ _ _ _ less (c .before .output-of .ensures ∙ ran-output _ _ _ _ _ ran) (l .loop .inv .0),
+      filling-next _ _ _ _ _ _ less (c .ending-number .ensures ∙ ran-number _ _ _ _ _ ran) (l .loop .inv .1),
+      runs-next _ _ _ _ _ _ (l .loop .inv .2) (omega (arith, less)) ran,
+    )
+
+returns : tie.Need-returns Inv-loop μ-loop
+unfolding arrived
+returns c =
+    let l = c .before .before .before in
+    let p = l .before .before .before .before .before .before .before .before .before .before .before .pre in
+    let over = c .before .before .loop-test .left in
+    let s1 = l .before .before .before .prepare1 .ensures .0 in
+    let s2 = l .before .before .prepare2 .ensures .0 in
+    rw (sym (s1 ∙ l .before .before .before .before .before .stage1 .ensures), sym (s2 ∙ l .before .before .before .before .stage2 .ensures))
+    (record {
+      placed = rw map-map (filling-done _ _ _ _ _ over (p .4) (l .loop .inv .0));
+      numbered = rw map-map (filling-done _ _ _ _ _ over (p .5) (l .loop .inv .1));
+      single = λ x e. rw (c .reached-by .ensures, sym s1, sym s2) (runs-done _ _ _ _ _ _ (l .loop .inv .2) over x e);
+    })
+
+pub each-spec : {M : Type 1} → statement M
+each-spec =
+    tie.close
+    (tie.spec
+    Inv-loop
+    μ-loop
+    (λ c κs. search needs)
+    (λ c κs. search needs)
+    prepare1-requires
+    prepare2-requires
+    (λ c κs. search needs)
+    (λ c. (filling-start _ _ _, filling-start _ _ _, runs-start _ _ _ _ _ _ _))
+    (λ c. scaled-fits _ _ _ (c .loop-test .taken) (c .before .before .before .before .before .before .before .before .before .before .before .before .good .1 .1 .1 .1 .1 .1 .1 .0 .1))
+    (λ c. search needs)
+    access-requires
+    (λ c κs. search needs)
+    (λ c. scaled-fits _ _ _ (c .before .before .before .before .before .before .before .loop-test .taken) (c .before .before .before .before .before .before .before .before .before .before .before .before .before .before .before .before .before .before .before .good .1 .1 .1 .1 .1 .1 .1 .0 .1))
+    slice-write-outputs
+    (λ c κs. search needs)
+    (λ c. scaled-fits _ _ _ (c .before .before .before .before .before .before .before .before .loop-test .taken) (c .before .before .before .before .before .before .before .before .before .before .before .before .before .before .before .before .before .before .before .before .good .1 .1 .1 .1 .1 .1 .1 .0 .1))
+    slice-write-numbers
+    (λ c. record { fits = omega (arith, c .before .before .before .before .before .before .before .before .loop-test .taken, c .before .before .before .before .before .before .before .before .before .before .before .before .before .before .before .before .before .before .before .before .good .1 .1 .1 .1 .1 .1 .1 .0 .0) })
+    (λ c. omega (arith, c .before .before .before .before .before .before .before .before .loop-test .taken))
+    loop-again
+    (λ c κs. search needs)
+    (λ c. c .before .before .before .loop .inv .0 .same)
+    (λ c. c .before .before .before .loop .inv .1 .same)
+    (λ c. c .before .before .before .loop .inv .2 .same)
+    returns)
