@@ -1,18 +1,14 @@
-// Which registers are accepted (01, Settings). Each item is a function of its own.
+// Which registers are accepted (01, Settings). The first item that fails decides, and a stage that is off is not tested.
 ghost use mathlib.Core.Path.{_≡_};
 ghost use mathlib.Core.Bool.{not, _&&_};
+ghost use mathlib.Core.List.{[], _∷_};
 ghost use Prim.Native.Nat.{_-_};
 ghost use lib.Dec.{leb, eqb};
-ghost use Rattle.bits.specs.Bits.{pick};
 ghost use Rattle.settings.specs.Settings as Settings;
-ghost use Rattle.registers.specs.Hcr as HcrFields;
-ghost use Rattle.registers.specs.Sctlr as SctlrFields;
 ghost use Rattle.registers.specs.Tcr as TcrFields;
 ghost use Rattle.registers.specs.Vtcr as VtcrFields;
 use registers::El1;
 use registers::El2;
-use registers::hcr::Hcr;
-use registers::sctlr::Sctlr;
 use registers::tcr::Tcr;
 use registers::vtcr::Vtcr;
 
@@ -51,112 +47,130 @@ fn listed_size_field(n: u64) -> bool
     }
 }
 
-// What is asked only where a test holds.
-fn implies(test: bool, asked: bool) -> bool
-    ensures { λ yes. ⌜ yes ≡ Settings.implies test asked ⌝ }
+// Item 4: no stage that is on has big-endian tables.
+fn item4_el1(r: El2, g: El1) -> bool
+    ensures { λ yes. ⌜ yes ≡ Settings.item4El1 r g ⌝ }
 {
-    !test | asked
+    let sctlr = g.sctlr;
+    !stage1_on(r, g) | !sctlr.ee()
 }
 
-// Items 4 to 9, each by whether its stage is on. No stage reads big-endian tables.
-fn item4(on: bool, sctlr: Sctlr) -> bool
-    ensures { λ yes. ⌜ yes ≡ Settings.implies on (not (SctlrFields.ee sctlr)) ⌝ }
+fn item4_el2(r: El2) -> bool
+    ensures { λ yes. ⌜ yes ≡ Settings.item4El2 r ⌝ }
 {
-    implies(on, !sctlr.ee())
+    let sctlr = r.sctlr;
+    !stage2_on(r) | !sctlr.ee()
 }
 
-// IPS has a code.
-fn item5(on: bool, tcr: Tcr) -> bool
-    ensures { λ yes. ⌜ yes ≡ Settings.implies on (leb (TcrFields.ips tcr) 5) ⌝ }
-{
-    implies(on, tcr.ips() <= 5)
-}
-
-// A VA range that is walked has an accepted size and the 4KB granule, which is 0 in TG0 and 2 in TG1.
-fn item6(on: bool, tcr: Tcr) -> bool
+// Items 6 and 7, of a stage 1 that is on: a VA range that is walked has an accepted size and the 4KB granule, which is 0 in TG0 and 2 in TG1.
+fn item6(tcr: Tcr) -> bool
     ensures { λ yes. ⌜ yes ≡
-        Settings.implies (on && not (TcrFields.epd0 tcr)) (Settings.listedSizeField (TcrFields.t0sz tcr) && eqb (TcrFields.tg0 tcr) 0) ⌝ }
+        Settings.implies (not (TcrFields.epd0 tcr)) (Settings.listedSizeField (TcrFields.t0sz tcr) && eqb (TcrFields.tg0 tcr) 0) ⌝ }
 {
-    implies(
-        on & !tcr.epd0(),
-        listed_size_field(tcr.t0sz()) & (tcr.tg0() == 0),
-    )
+    if tcr.epd0() {
+        return true;
+    }
+    listed_size_field(tcr.t0sz()) & (tcr.tg0() == 0)
 }
 
-fn item7(on: bool, tcr: Tcr) -> bool
+fn item7(tcr: Tcr) -> bool
     ensures { λ yes. ⌜ yes ≡
-        Settings.implies (on && not (TcrFields.epd1 tcr)) (Settings.listedSizeField (TcrFields.t1sz tcr) && eqb (TcrFields.tg1 tcr) 2) ⌝ }
+        Settings.implies (not (TcrFields.epd1 tcr)) (Settings.listedSizeField (TcrFields.t1sz tcr) && eqb (TcrFields.tg1 tcr) 2) ⌝ }
 {
-    implies(
-        on & !tcr.epd1(),
-        listed_size_field(tcr.t1sz()) & (tcr.tg1() == 2),
-    )
+    if tcr.epd1() {
+        return true;
+    }
+    listed_size_field(tcr.t1sz()) & (tcr.tg1() == 2)
 }
 
-// PS has a code.
-fn item8(on: bool, vtcr: Vtcr) -> bool
-    ensures { λ yes. ⌜ yes ≡ Settings.implies on (leb (VtcrFields.ps vtcr) 5) ⌝ }
-{
-    implies(on, vtcr.ps() <= 5)
-}
-
-// Stage 2's size is accepted and no greater than PAMax.
-fn item9(on: bool, vtcr: Vtcr, pamax: u64) -> bool
+// Item 9, of a stage 2 that is on: its size is accepted and no greater than PAMax, and its granule is 4KB.
+fn item9(vtcr: Vtcr, pamax: u64) -> bool
     ensures { λ yes. ⌜ yes ≡
-        Settings.implies on (Settings.listedSizeField (VtcrFields.t0sz vtcr) && eqb (VtcrFields.tg0 vtcr) 0 && leb (64 - VtcrFields.t0sz vtcr) pamax) ⌝ }
+        (Settings.listedSizeField (VtcrFields.t0sz vtcr) && eqb (VtcrFields.tg0 vtcr) 0 && leb (64 - VtcrFields.t0sz vtcr) pamax) ⌝ }
 {
     let field = vtcr.t0sz();
-    implies(
-        on,
-        listed_size_field(field) & (vtcr.tg0() == 0) & (64 - field <= pamax),
-    )
+    listed_size_field(field) & (vtcr.tg0() == 0) & (64 - field <= pamax)
 }
 
-// An item's number where it does not hold, else what the items after it say.
-fn item(holds: bool, number: u64, after: u64) -> u64
-    ensures { λ n. ⌜ n ≡ pick holds after number ⌝ }
+// The first of items 1 to 3 that does not hold, or 0.
+fn first_items(r: El2) -> u64
+    ensures { λ n. ⌜ n ≡ Settings.firstFailing (Settings.firstItems r []) ⌝ }
 {
-    if holds { after } else { number }
+    let hcr = r.hcr;
+    if !listed_pamax(r.pamax) {
+        return 1;
+    }
+    if hcr.tge() {
+        return 2;
+    }
+    if !hcr.rw() {
+        return 3;
+    }
+    0
 }
 
-// Items 1 to 3, before what the later ones say.
-fn first_items(pamax: u64, hcr: Hcr, after: u64) -> u64
-    ensures { λ n. ⌜ n ≡ pick (Settings.listedPamax pamax) (pick (not (HcrFields.tge hcr)) (pick (HcrFields.rw hcr) after 3) 2) 1 ⌝ }
-{
-    let n = item(hcr.rw(), 3, after);
-    let n = item(!hcr.tge(), 2, n);
-    item(listed_pamax(pamax), 1, n)
-}
-
-// Items 8 and 9, which are stage 2's.
+// The same of items 8 and 9, which hold where stage 2 is off. Item 8: PS has a code.
 fn last_items(r: El2) -> u64
-    ensures { λ n. ⌜ n ≡ pick (Settings.item8 r) (pick (Settings.item9 r) 0 9) 8 ⌝ }
+    ensures { λ n. ⌜ n ≡ Settings.firstFailing (Settings.lastItems r) ⌝ }
 {
     let vtcr = r.vtcr;
-    let on = stage2_on(r);
-    let n = item(item9(on, vtcr, r.pamax), 9, 0);
-    item(item8(on, vtcr), 8, n)
+    if !stage2_on(r) {
+        return 0;
+    }
+    if 5 < vtcr.ps() {
+        return 8;
+    }
+    if !item9(vtcr, r.pamax) {
+        return 9;
+    }
+    0
 }
 
-// The first item of a question's settings that does not hold, or 0. From the last item to the first, so that the first has the last word.
+// The same of items 5 to 9. Items 5 to 7 hold where stage 1 is off. Item 5: IPS has a code.
+fn stage_items(r: El2, g: El1) -> u64
+    ensures { λ n. ⌜ n ≡
+        Settings.firstFailing ((5, Settings.item5 r g) ∷ (6, Settings.item6 r g) ∷ (7, Settings.item7 r g) ∷ Settings.lastItems r) ⌝ }
+{
+    let tcr = g.tcr;
+    if !stage1_on(r, g) {
+        return last_items(r);
+    }
+    if 5 < tcr.ips() {
+        return 5;
+    }
+    if !item6(tcr) {
+        return 6;
+    }
+    if !item7(tcr) {
+        return 7;
+    }
+    last_items(r)
+}
+
+// The first item of a question's settings that does not hold, or 0.
 pub fn of_question(r: El2, g: El1) -> u64
     ensures { λ n. ⌜ n ≡ Settings.settings r g ⌝ }
 {
-    let on = stage1_on(r, g);
-    let tcr = g.tcr;
-    let n = last_items(r);
-    let n = item(item7(on, tcr), 7, n);
-    let n = item(item6(on, tcr), 6, n);
-    let n = item(item5(on, tcr), 5, n);
-    let n = item(item4(on, g.sctlr) & item4(stage2_on(r), r.sctlr), 4, n);
-    first_items(r.pamax, r.hcr, n)
+    let first = first_items(r);
+    if first != 0 {
+        return first;
+    }
+    if !item4_el1(r, g) {
+        return 4;
+    }
+    if !item4_el2(r) {
+        return 4;
+    }
+    stage_items(r, g)
 }
 
 // The same for the audit, which goes by no register of the guest.
 pub fn of_audit(r: El2) -> u64
     ensures { λ n. ⌜ n ≡ Settings.auditSettings r ⌝ }
 {
-    let n = last_items(r);
-    let n = item(item4(stage2_on(r), r.sctlr), 4, n);
-    first_items(r.pamax, r.hcr, n)
+    let first = first_items(r);
+    if first != 0 {
+        return first;
+    }
+    if item4_el2(r) { last_items(r) } else { 4 }
 }

@@ -3,4 +3,12 @@ use Rattle.settings.proofs.item7.Statement.{statement}
 use Rattle.settings.proofs.item7.Tie as tie
 
 pub item7-spec : {M : Type 1} → statement M
-item7-spec = tie.close (tie.spec (λ c κs. tt) (λ c κs. tt) (λ c κs. tt) (λ c κs. tt) (λ c κs. tt) (λ c. cc))
+item7-spec =
+    tie.close
+    (tie.spec
+    (λ c κs. tt)
+    (λ c. rw (← c .before .epd1 .ensures, c .if1 .taken))
+    (λ c κs. tt)
+    (λ c κs. tt)
+    (λ c κs. tt)
+    (λ c. rw (← c .before .before .before .before .epd1 .ensures, c .before .before .before .if1 .left) (cc)))
