@@ -1,8 +1,7 @@
 // The ledger of a batch: how many answers of each sort there were, and its line.
 ghost use mathlib.Core.Path.{_≡_};
-ghost use Prim.Native.Nat.{ℕ, _-_, _^_, _≤_};
+ghost use Prim.Native.Nat.{ℕ, _≤_};
 ghost use Rattle.bits.specs.Bits.{pick};
-ghost use Rattle.ledger.specs.Calls as Calls;
 ghost use Rattle.ledger.specs.Ledger as Ledgers;
 
 pub mod line;
@@ -23,35 +22,29 @@ fn one(test: bool) -> u64
     if test { 1 } else { 0 }
 }
 
-// A ledger with one answer more, by its number.
-fn tally(l: Ledger, number: u64) -> Ledger
-    requires { ⌜ Calls.AtMost l (2 ^ 64 - 2) ⌝ }
-    ensures { λ r. ⌜ r ≡ Calls.tallied l number ⌝ }
-{
-    Ledger {
-        asked: l.asked + 1,
-        translated: l.translated + one(number == 0),
-        faulted: l.faulted + one((1 <= number) & (number <= 5)),
-        absent: l.absent + one(number == 6),
-        unsettled: l.unsettled + one(number == 7),
-    }
-}
-
-// The ledger of a list of answers' numbers.
+// The ledger of a list of answers' numbers. The sorts' numbers follow each other, 0, 1 to 5, 6, 7, so a sort's figure is the difference of two
+// counts: how many numbers are below its end, and below its start. Such a count is a comparison and an addition a number.
 pub fn count(numbers: &[u64]) -> Ledger
     ensures { λ r. ⌜ r ≡ Ledgers.ledger (now (numbers .entry)) ⌝ }
 {
-    let mut l = Ledger {
-        asked: 0,
-        translated: 0,
-        faulted: 0,
-        absent: 0,
-        unsettled: 0,
-    };
+    let mut below1 = 0;
+    let mut below6 = 0;
+    let mut below7 = 0;
+    let mut below8 = 0;
     let mut i = 0;
     while i < numbers.len() {
-        l = tally(l, numbers[i]);
+        let number = numbers[i];
+        below1 += one(number < 1);
+        below6 += one(number < 6);
+        below7 += one(number < 7);
+        below8 += one(number < 8);
         i += 1;
     }
-    l
+    Ledger {
+        asked: numbers.len() as u64,
+        translated: below1,
+        faulted: below6 - below1,
+        absent: below7 - below6,
+        unsettled: below8 - below7,
+    }
 }
