@@ -9,14 +9,14 @@ use Rattle.reads.specs.declared.Read.{Read}
 use Rattle.access.specs.declared.Access.{Access}
 use Rattle.walk.specs.declared.stage2.Stage2.{Stage2}
 use Rattle.stages.specs.Stages.{access}
-use Rattle.stages.specs.Calls.{outcomeOf}
+use Rattle.stages.specs.Calls.{arrived}
 use Rattle.stages.specs.declared.stage1.Stage1.{Stage1}
+use Rattle.stages.specs.declared.both.Arrival.{Arrival}
 use Rattle.answers.specs.Answers.{number}
 use Rattle.answers.specs.Entries.{answerOf, outputOf}
-use Rattle.accesses.specs.declared.Last.{Last}
 
 -- both written lists have each address's answer, `to` being the access to an address; of a list of one, the last end and the log are the access's
-pub record Each (m : Request → Read) (s1 : Stage1) (s2 : Stage2) (to : ℕ → Access) (addresses log : List ℕ) (last : Last) (outputs numbers log′ : List ℕ) : Type 0 where
+pub record Each (m : Request → Read) (s1 : Stage1) (s2 : Stage2) (to : ℕ → Access) (addresses log : List ℕ) (last : Arrival) (outputs numbers log′ : List ℕ) : Type 0 where
   pub placed : outputs ≡ map outputOf (map (λ x. answerOf m s1 s2 (to x)) addresses)
   pub numbered : numbers ≡ map number (map (λ x. answerOf m s1 s2 (to x)) addresses)
-  pub single : (x : ℕ) → addresses ≡ x ∷ [] → Ran m (access s1 s2 (to x)) log 0 (outcomeOf (last .reached)) (last .count) log′
+  pub single : (x : ℕ) → addresses ≡ x ∷ [] → Ran m (access s1 s2 (to x)) log 0 (arrived s1 s2 (to x) last) (last .end .count) log′

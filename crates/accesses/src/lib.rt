@@ -6,29 +6,20 @@ use registers::El2;
 use stages::both;
 use stages::both::Arrival;
 use stages::both::By;
-use stages::both::Reached;
-use stages::stage1;
 use walk::end;
 use walk::end::End;
 use walk::end::Ending;
-use walk::stage2;
 ghost use mathlib.Core.Path.{_≡_};
 ghost use mathlib.Core.Bool.{true};
-ghost use Prim.Native.Nat.{_+_, _≤_, _^_};
-ghost use lib.ListN.{length};
-ghost use Rattle.bits.specs.Bits.{pick};
+ghost use Prim.Native.Nat.{ℕ, _+_, _≤_, _<_, _^_};
+ghost use lib.ListN.{length, getD};
+ghost use Rattle.bits.specs.Bits.{pick, bit};
 ghost use Rattle.access.specs.Access.{listedSize};
 ghost use Rattle.capture.specs.Capture.{captured};
 ghost use Rattle.walk.specs.Ends.{passed};
 ghost use Rattle.settings.specs.Settings.{settings};
 ghost use Rattle.regime.specs.Roots.{stage1, stage2};
 ghost use Rattle.accesses.specs.Calls.{Each};
-
-// How the last access of a list ended, after so many reads.
-pub struct Last {
-    pub reached: Reached,
-    pub count: usize,
-}
 
 // The output address, or 0 for an address that is not translated.
 fn output_of(e: End) -> u64
@@ -37,6 +28,18 @@ fn output_of(e: End) -> u64
     let ending = e.ending;
     let address = e.address;
     if end::passed(ending) { address } else { 0 }
+}
+
+// Whether a list may ask for a VA range, the upper one or the lower: a list of one address asks for its own alone.
+fn wanted(addresses: &[u64], upper: bool) -> bool
+    ensures { λ r. ⌜ ((i : ℕ) → i < length (now (addresses .entry)) → bit (getD (now (addresses .entry)) i 0) 55 ≡ upper → r ≡ true) ⌝ }
+{
+    if addresses.len() == 1 {
+        let set = bits::bit(addresses[0], 55);
+        if upper { set } else { !set }
+    } else {
+        true
+    }
 }
 
 // Answers each address: the number of its answer, and its output. Gives how the last access ended.
@@ -52,14 +55,12 @@ pub fn each(
     outputs: &mut [u64],
     numbers: &mut [u64],
     log: &mut [u64],
-) -> Last
+) -> Arrival
     requires { ⌜ (settings r g ≡ 0) × (listedSize size ≡ true) × (base + length (now bytes) ≤ 2 ^ 64) × (24 ≤ length (now log)) × (length (now outputs) ≡ length (now addresses)) × (length (now numbers) ≡ length (now addresses)) ⌝ }
     ensures { λ last. ⌜ Each (captured base (now (bytes .entry))) (stage1 r g) (stage2 r) (λ x. record { address = x; kind = kind; el = el; size = size }) (now (addresses .entry)) (now (log .entry)) last (now (outputs .exit)) (now (numbers .exit)) (now (log .exit)) ⌝ }
 {
-    let s1 = regime::stage1(r, g);
-    let s2 = regime::stage2(r);
-    let p = stage1::prepare1(s1);
-    let q = stage2::prepare2(s2);
+    let p = regime::prepared1(r, g, wanted(addresses, false), wanted(addresses, true));
+    let q = regime::prepared2(r);
     let mut last = Arrival {
         by: By::First,
         end: end::stopped(Ending::Unsettled, 0, 0),
@@ -82,16 +83,5 @@ pub fn each(
         numbers[i] = answers::ending_number(ending);
         i += 1;
     }
-    // Of an access its kind alone counts for the attributes.
-    let any = Access {
-        address: 0,
-        kind,
-        el,
-        size,
-    };
-    let end = last.end;
-    Last {
-        reached: both::reached_by(s1, s2, any, last),
-        count: end.count,
-    }
+    last
 }

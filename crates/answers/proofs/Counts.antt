@@ -39,7 +39,8 @@ use Rattle.level.specs.Level.{fourK, inputSize, start1, start2, levelsBelow}
 use Rattle.regime.specs.Roots.{rangeOf, root2, stage1, stage2}
 use Rattle.registers.specs.declared.El1.{El1}
 use Rattle.registers.specs.declared.El2.{El2}
-use Rattle.regime.proofs.Settings.{Sized, lower-sized, upper-sized}
+use Rattle.regime.specs.Calls.{Sized}
+use Rattle.regime.proofs.Settings.{lower-sized, upper-sized}
 use Rattle.regime.proofs.Roots.{start1-is, start2-most, by-range, by-root1At, by-root2, Sane, root2-sane}
 use Rattle.answers.specs.Question.{grounds, refusal, turnedAway, told, askOver, ask}
 use Rattle.answers.specs.Counts.{levelsFrom, rangeLevels, n1, n2, limit, Counted, Counts}

@@ -5,6 +5,7 @@ use answers::Refusal;
 use answers::Verdict;
 use registers::El1;
 use registers::El2;
+use stages::both;
 ghost use mathlib.Core.List.{List};
 ghost use Prim.Native.Nat.{ℕ};
 ghost use Rattle.answers.specs.Question.{ask, Tells};
@@ -44,8 +45,9 @@ pub fn translate(bytes: &[u8], base: u64, r: El2, g: El1, a: Access, log: &mut [
                 &mut numbers,
                 log,
             );
-            let reads = last.count as u64;
-            let reached = last.reached;
+            let end = last.end;
+            let reads = end.count as u64;
+            let reached = both::reached_by(regime::memory(r, g), a, last);
             answers::answered(reached, reads)
         }
     }

@@ -1,3 +1,4 @@
 pub mod Settings
 pub mod Roots
 pub mod Ready
+pub mod Narrowed

@@ -1,21 +1,21 @@
--- Accepted registers always give stages that an access may be called with: their roots are small, so that no address of a walk leaves 64 bits.
+-- Accepted registers always give stages that an access may be called with: their roots are small, so that no address of a walk leaves
+-- 64 bits, and their VA ranges are of at most 48 bits or disabled.
 -- Assumes nothing.
 use mathlib.Core.Path.{_≡_, refl, sym, subst}
 use mathlib.Core.Bool.{Bool, true, false}
 use Prim.Native.Nat.{ℕ, _+_, _-_, _*_, _≤_, suc-le-suc}
 use native.Mathlib.Omega.{arith}
 use lib.IntN.{ℤ, pos}
+use lib.Signed.{ltZ}
 use Rattle.bits.specs.Bits.{pick}
 use Rattle.registers.specs.Vtcr
-use Rattle.settings.specs.Settings.{settings}
-use Rattle.level.specs.Level.{fourK, inputSize, outputSize, levelsBelow}
-use Rattle.regime.specs.Roots.{tableOf, rangeOf, root2, stage1, stage2}
-use Rattle.registers.specs.declared.El1.{El1}
+use Rattle.level.specs.Level.{fourK, inputSize, outputSize, start1, start2, sizeCheck, levelsBelow}
+use Rattle.regime.specs.Roots.{tableOf, rangeOf}
 use Rattle.registers.specs.declared.El2.{El2}
-use Rattle.regime.proofs.Settings.{Sized, lower-sized, upper-sized}
-use Rattle.regime.proofs.Roots.{start1-is, start2-most, start2-bits, by-range, by-root2}
-use Rattle.walk.specs.Calls.{Small, SmallRoot}
-use Rattle.stages.specs.Ranges.{Narrow, limited, disabled, Walkable}
+use Rattle.regime.specs.Calls.{Sized}
+use Rattle.regime.proofs.Roots.{start1-is, start2-most, not-negative, start2-bits}
+use Rattle.walk.specs.Calls.{Small}
+use Rattle.stages.specs.Ranges.{Narrow, limited, disabled}
 use Rattle.descriptor.proofs.Masks.{upper-small}
 
 small-table : (s output n register : ℕ) → n ≤ 3 → s - (12 + 9 * n) ≤ 13 → Small (tableOf (fourK s output) n register)
@@ -37,30 +37,22 @@ unfolding levelsBelow
 small-from s output register start l h e bits =
     subst (λ z. Small (tableOf (fourK s output) (levelsBelow z) register)) (sym e) (small-table s output (3 - l) register (omega arith) bits)
 
-small-range : (ips tnsz : ℕ) (epd : Bool) (ttbr : ℕ) → (epd ≡ false → Sized (inputSize tnsz)) → SmallRoot (rangeOf ips tnsz epd ttbr .root)
-small-range ips tnsz epd ttbr sized =
-    by-range SmallRoot (λ k l. tt) ips tnsz epd ttbr
-    (λ e.
-    let p = start1-is (inputSize tnsz) (outputSize ips) (sized e) in
-    small-from _ _ ttbr _ (p .0) (p .1) (p .2) (omega (arith, p .3)))
+-- a VA range of an accepted size
+pub small1 : (ips tnsz ttbr : ℕ) → Sized (inputSize tnsz) → (let g = fourK (inputSize tnsz) (outputSize ips) in Small (tableOf g (levelsBelow (start1 g)) ttbr))
+small1 ips tnsz ttbr sized =
+    let p = start1-is (inputSize tnsz) (outputSize ips) sized in
+    small-from _ _ ttbr _ (p .0) (p .1) (p .2) (omega (arith, p .3))
 
-narrow-range : (ips tnsz : ℕ) (epd : Bool) (ttbr : ℕ) → (epd ≡ false → Sized (inputSize tnsz)) → Narrow (rangeOf ips tnsz epd ttbr)
+pub narrow1 : (ips tnsz : ℕ) (epd : Bool) (ttbr : ℕ) → (epd ≡ false → Sized (inputSize tnsz)) → Narrow (rangeOf ips tnsz epd ttbr)
 unfolding pick
-narrow-range ips tnsz true ttbr h = disabled refl
-narrow-range ips tnsz false ttbr h = limited (h refl .most)
+narrow1 ips tnsz true ttbr h = disabled refl
+narrow1 ips tnsz false ttbr h = limited (h refl .most)
 
-small2 : (r : El2) → SmallRoot (root2 r)
-small2 r =
-    by-root2 SmallRoot (λ k l. tt) r
-    (λ l e few.
-    let h = start2-most r l e in
-    small-from _ _ (r .vttbr) _ l h e (start2-bits _ (outputSize (Vtcr.ps (r .vtcr))) l h (rw e at few)))
-
-pub walkable : (r : El2) (g : El1) → settings r g ≡ 0 → Walkable (stage1 r g) (stage2 r)
-unfolding stage1 stage2
-walkable r g accepted =
-    record {
-      lower = λ on. let h = lower-sized r g accepted on in (small-range _ _ _ _ h, narrow-range _ _ _ _ h);
-      upper = λ on. let h = upper-sized r g accepted on in (small-range _ _ _ _ h, narrow-range _ _ _ _ h);
-      second = small2 r;
-    }
+-- stage 2 from a start level that is not negative, with at most 13 index bits
+pub small2 : (r : El2) →
+    (let g = fourK (inputSize (Vtcr.t0sz (r .vtcr))) (outputSize (Vtcr.ps (r .vtcr))) in let start = start2 (Vtcr.sl0 (r .vtcr)) in
+    ltZ start (pos 0) ≡ false → ltZ (pos 13) (sizeCheck g start) ≡ false → Small (tableOf g (levelsBelow start) (r .vttbr)))
+small2 r some few =
+    let p = not-negative (start2 (Vtcr.sl0 (r .vtcr))) some in
+    let h = start2-most r (p .0) (p .1) in
+    small-from _ _ (r .vttbr) _ (p .0) h (p .1) (start2-bits _ (outputSize (Vtcr.ps (r .vtcr))) (p .0) h (rw (p .1) at few))

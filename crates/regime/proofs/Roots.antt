@@ -24,7 +24,7 @@ use Rattle.level.specs.Level.{fourK, inputSize, outputSize, start1, start2, siz
 use Rattle.regime.specs.Roots.{tableOf, rootOf, rangeOf, root2, stage1}
 use Rattle.registers.specs.declared.El1.{El1}
 use Rattle.registers.specs.declared.El2.{El2}
-use Rattle.regime.proofs.Settings.{Sized}
+use Rattle.regime.specs.Calls.{Sized}
 
 -- ---- start levels
 
@@ -58,7 +58,7 @@ start2-below (suc (suc (suc (suc n)))) h l e = absurd (omega arith)
 pub start2-most : (r : El2) (l : ℕ) → start2 (Vtcr.sl0 (r .vtcr)) ≡ pos l → l ≤ 2
 start2-most r = start2-below _ (mod-lt _ (omega arith))
 
-not-negative : (z : ℤ) → ltZ z (pos 0) ≡ false → (l : ℕ) × (z ≡ pos l)
+pub not-negative : (z : ℤ) → ltZ z (pos 0) ≡ false → (l : ℕ) × (z ≡ pos l)
 not-negative (pos l) e = (l, refl)
 not-negative (negsuc l) e = absurd (true≢false e)
 

@@ -1,17 +1,18 @@
 -- What accepted settings say of stage 1's sizes.
 -- Assumes nothing.
-use mathlib.Core.Path.{_≡_, refl}
-use mathlib.Core.Bool.{Bool, true, false, not, _&&_, true≢false, false≢true}
-use Prim.Native.Nat.{ℕ, _-_, _≤_}
+use mathlib.Core.Path.{_≡_, refl, sym, _∙_}
+use mathlib.Core.Bool.{Bool, true, false, not, _&&_, _||_, true≢false, false≢true}
+use Prim.Native.Nat.{ℕ, _≤_, _<_}
 use native.Mathlib.Omega.{arith}
-use lib.Dec.{leb}
-use borrow.Author.Tests.{leb-true}
+use lib.Dec.{leb, eqb}
+use borrow.Author.Tests.{leb-true, eqb-true}
 use Rattle.bits.specs.Bits.{pick}
 use Rattle.bits.proofs.Tests.{and-left, and-right}
 use Rattle.registers.specs.Tcr
-use Rattle.settings.specs.Settings.{stage1On, implies, listedSizeField, items, settings}
+use Rattle.settings.specs.Settings.{stage1On, implies, listedPamax, listedSizeField, items, settings}
 use Rattle.settings.proofs.Items.{holdsAt, numbered, item-holds}
 use Rattle.level.specs.Level.{inputSize}
+use Rattle.regime.specs.Calls.{Sized, leftOut}
 use Rattle.registers.specs.declared.El1.{El1}
 use Rattle.registers.specs.declared.El2.{El2}
 
@@ -20,11 +21,6 @@ asked true false true t h p q = refl
 asked true false false t h p q = absurd (false≢true h)
 asked true true s t h p q = absurd (true≢false q)
 asked false b s t h p q = absurd (false≢true p)
-
--- an input size in bits that 01 accepts
-pub record Sized (s : ℕ) : Type 0 where
-  pub least : 25 ≤ s
-  pub most : s ≤ 48
 
 sized : (n : ℕ) → listedSizeField n ≡ true → Sized (inputSize n)
 sized n e =
@@ -40,3 +36,36 @@ module _ (r : El2) (g : El1) (accepted : settings r g ≡ 0) (on : stage1On r g 
   pub upper-sized : Tcr.epd1 (g .tcr) ≡ false → Sized (inputSize (Tcr.t1sz (g .tcr)))
   unfolding settings holdsAt numbered pick
   upper-sized epd = sized _ (asked _ _ _ _ (item-holds (items r g) refl accepted 7) on epd)
+
+-- ---- of a VA range that is wanted
+
+kept : (on wanted epd : Bool) → leftOut (on && wanted) epd ≡ false → (on ≡ true) × (epd ≡ false)
+unfolding pick
+kept true true epd e = (refl, e)
+kept true false epd e = absurd (true≢false e)
+kept false wanted epd e = absurd (true≢false e)
+
+module _ (r : El2) (g : El1) (accepted : settings r g ≡ 0) (wanted : Bool) {on : Bool} (is : on ≡ stage1On r g) where
+  pub lower-kept : leftOut (on && wanted) (Tcr.epd0 (g .tcr)) ≡ false → Sized (inputSize (Tcr.t0sz (g .tcr)))
+  lower-kept e = let k = kept on wanted _ e in lower-sized r g accepted (sym is ∙ k .0) (k .1)
+
+  pub upper-kept : leftOut (on && wanted) (Tcr.epd1 (g .tcr)) ≡ false → Sized (inputSize (Tcr.t1sz (g .tcr)))
+  upper-kept e = let k = kept on wanted _ e in upper-sized r g accepted (sym is ∙ k .0) (k .1)
+
+-- ---- PAMax
+
+listed-small : (n : ℕ) → listedPamax n ≡ true → n < 64
+listed-small n e = by-tests _ _ _ _ _ _ refl refl refl refl refl refl e
+  where
+    by-tests : (a b c d f g : Bool) → eqb n 32 ≡ a → eqb n 36 ≡ b → eqb n 40 ≡ c → eqb n 42 ≡ d → eqb n 44 ≡ f → eqb n 48 ≡ g → (a || b || c || d || f || g) ≡ true → n < 64
+    by-tests true b c d f g p q r s t u e = omega (arith, eqb-true n 32 p)
+    by-tests false true c d f g p q r s t u e = omega (arith, eqb-true n 36 q)
+    by-tests false false true d f g p q r s t u e = omega (arith, eqb-true n 40 r)
+    by-tests false false false true f g p q r s t u e = omega (arith, eqb-true n 42 s)
+    by-tests false false false false true g p q r s t u e = omega (arith, eqb-true n 44 t)
+    by-tests false false false false false true p q r s t u e = omega (arith, eqb-true n 48 u)
+    by-tests false false false false false false p q r s t u e = absurd (false≢true e)
+
+pub pamax-small : (r : El2) (g : El1) → settings r g ≡ 0 → r .pamax < 64
+unfolding settings holdsAt numbered pick
+pamax-small r g accepted = listed-small _ (item-holds (items r g) refl accepted 1)

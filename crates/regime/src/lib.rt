@@ -1,22 +1,32 @@
-// The stages of a walk, as registers give them (01, Walk). Every register value has its stages, accepted or not.
+// The stages of a walk, as registers give them (01, Walk).
 ghost use mathlib.Core.Path.{_≡_};
 ghost use Prim.Native.Nat.{_≤_, _<_};
-ghost use mathlib.Core.Bool.{_&&_, _||_};
+ghost use mathlib.Core.Bool.{false, _&&_, _||_};
 ghost use lib.Dec.{leb};
 ghost use lib.IntN.{pos};
 ghost use lib.Signed.{ltZ};
 ghost use Rattle.bits.specs.Bits.{pick};
 ghost use Rattle.descriptor.specs.declared.entry.FaultKind.the-variants.{Translation};
 ghost use Rattle.walk.specs.declared.table.Root.the-variants.{Unusable};
-ghost use Rattle.level.specs.Level.{fourK};
+ghost use Rattle.walk.specs.Calls.{Small, Starts, Sound2, stage2Of};
+ghost use Rattle.stages.specs.Calls.{Sound1, stage1Of, memoryOf};
+ghost use Rattle.settings.specs.Settings.{settings};
+ghost use Rattle.level.specs.Level.{fourK, inputSize};
 ghost use Rattle.registers.specs.Tcr as TcrFields;
 ghost use Rattle.regime.specs.Roots as Roots;
-use descriptor::entry::FaultKind;
+ghost use Rattle.regime.specs.Calls as Calls;
+ghost use Rattle.regime.specs.Calls.{Sized};
 use descriptor::entry::Geometry;
+use descriptor::turn;
 use registers::El1;
 use registers::El2;
-use stages::stage1::VaRange;
-use walk::table::Root;
+use stages::both::Memory;
+use stages::range;
+use stages::stage1::Prepared1;
+use walk::end::Ending;
+use walk::stage2::Prepared2;
+use walk::start;
+use walk::start::Start;
 use walk::table::Table;
 
 // The root table at a base register, with n levels below it, in the 4KB granule.
@@ -42,36 +52,95 @@ fn table_of(input: u64, output: u64, n: u64, register: u64) -> Table
     }
 }
 
-// The root at a base register, no bit of which may lie beyond the output size. None where a test holds.
-fn root_unless(test: bool, input: u64, output: u64, n: u64, register: u64) -> Root
-    requires { ⌜ (input ≤ 64) × (n ≤ 8) ⌝ }
-    ensures { λ r. ⌜ r ≡ pick test (Unusable Translation 0) (Roots.rootOf (fourK input output) n register) ⌝ }
+// The start at a base register, no bit of which may lie beyond the output size. No walk starts where a test holds.
+fn start_unless(test: bool, input: u64, output: u64, n: u64, register: u64) -> Start
+    requires { ⌜ (input ≤ 64) × (n ≤ 8) × (test ≡ false → Small (Roots.tableOf (fourK input output) n register)) ⌝ }
+    ensures { λ r. ⌜ Starts r (pick test (Unusable Translation 0) (Roots.rootOf (fourK input output) n register)) ⌝ }
 {
     if test {
-        return Root::Unusable {
-            kind: FaultKind::Translation,
-            level: 0,
-        };
+        return start::nowhere(Ending::Translation, 0);
     }
     if bits::beyond(register, output) {
-        return Root::Unusable {
-            kind: FaultKind::AddressSize,
-            level: 0,
-        };
+        return start::nowhere(Ending::AddressSize, 0);
     }
-    Root::Usable(table_of(input, output, n, register))
+    start::start_at(table_of(input, output, n, register))
 }
 
-// A VA range of stage 1, by its size field, EPD and TTBR.
-fn range_of(ips: u64, tnsz: u64, epd: bool, ttbr: u64) -> VaRange
-    requires { ⌜ tnsz < 64 ⌝ }
-    ensures { λ r. ⌜ r ≡ Roots.rangeOf ips tnsz epd ttbr ⌝ }
+// What registers say of one VA range of stage 1: its size field, EPD and TTBR.
+struct Half {
+    tnsz: u64,
+    epd: bool,
+    ttbr: u64,
+}
+
+// A range that nobody asks for is left out as if it were disabled.
+fn left_out(wanted: bool, epd: bool) -> bool
+    ensures { λ r. ⌜ r ≡ Calls.leftOut wanted epd ⌝ }
 {
-    let inputsize = 64 - tnsz;
+    if wanted { epd } else { true }
+}
+
+// What TTBR0 translates.
+fn lower_half(g: El1, wanted: bool) -> Half
+    ensures { λ r. ⌜ (r .tnsz ≡ TcrFields.t0sz (g .tcr)) × (r .epd ≡ Calls.leftOut wanted (TcrFields.epd0 (g .tcr))) × (r .ttbr ≡ g .ttbr0) ⌝ }
+{
+    let tcr = g.tcr;
+    Half {
+        tnsz: tcr.t0sz(),
+        epd: left_out(wanted, tcr.epd0()),
+        ttbr: g.ttbr0,
+    }
+}
+
+// What TTBR1 translates.
+fn upper_half(g: El1, wanted: bool) -> Half
+    ensures { λ r. ⌜ (r .tnsz ≡ TcrFields.t1sz (g .tcr)) × (r .epd ≡ Calls.leftOut wanted (TcrFields.epd1 (g .tcr))) × (r .ttbr ≡ g .ttbr1) ⌝ }
+{
+    let tcr = g.tcr;
+    Half {
+        tnsz: tcr.t1sz(),
+        epd: left_out(wanted, tcr.epd1()),
+        ttbr: g.ttbr1,
+    }
+}
+
+// The start of a VA range.
+fn start1(ips: u64, h: Half) -> Start
+    requires { ⌜ (h .tnsz < 64) × (h .epd ≡ false → Sized (inputSize (h .tnsz))) ⌝ }
+    ensures { λ r. ⌜ Starts r (Roots.rangeOf ips (h .tnsz) (h .epd) (h .ttbr) .root) ⌝ }
+{
+    let tnsz = h.tnsz;
     let n = level::levels_below(level::start1(tnsz));
-    VaRange {
-        inputsize,
-        root: root_unless(epd, inputsize, level::output_size(ips), n, ttbr),
+    start_unless(h.epd, 64 - tnsz, level::output_size(ips), n, h.ttbr)
+}
+
+// Stage 1 for walks, with the VA ranges that are wanted. With stage 1 off there is no walk.
+pub fn prepared1(r: El2, g: El1, lower: bool, upper: bool) -> Prepared1
+    requires { ⌜ settings r g ≡ 0 ⌝ }
+    ensures { λ p. ⌜ (stage1Of p ≡ Calls.narrowed1 lower upper r g) × Sound1 p ⌝ }
+{
+    let on = settings::stage1_on(r, g);
+    let hcr = r.hcr;
+    let tcr = g.tcr;
+    let sctlr = g.sctlr;
+    let ips = tcr.ips();
+    let low = lower_half(g, on & lower);
+    let high = upper_half(g, on & upper);
+    let size0 = 64 - low.tnsz;
+    let size1 = 64 - high.tnsz;
+    Prepared1 {
+        on,
+        pamax: r.pamax,
+        dc: hcr.dc(),
+        bounds: range::bounds_of(tcr.tbi0(), tcr.tbi1(), size0, size1, r.pamax),
+        size0,
+        size1,
+        lower: start1(ips, low),
+        upper: start1(ips, high),
+        mair: g.mair,
+        c: sctlr.c(),
+        i: sctlr.i(),
+        wxn: sctlr.wxn(),
     }
 }
 
@@ -82,14 +151,15 @@ fn startless(start: i64, bits: i64, pamax: u64) -> bool
     (start < 0) | (start < 1) & (pamax <= 42) | (bits < 1) | (13 < bits)
 }
 
-pub fn root2(r: El2) -> Root
-    ensures { λ s. ⌜ s ≡ Roots.root2 r ⌝ }
+// Stage 2's start.
+pub fn start2(r: El2) -> Start
+    ensures { λ s. ⌜ Starts s (Roots.root2 r) ⌝ }
 {
     let vtcr = r.vtcr;
     let start = level::start2(vtcr);
     let none = startless(start, level::size_check(vtcr), r.pamax);
     let n = level::levels_below(start);
-    root_unless(
+    start_unless(
         none,
         64 - vtcr.t0sz(),
         level::output_size(vtcr.ps()),
@@ -98,54 +168,50 @@ pub fn root2(r: El2) -> Root
     )
 }
 
-// The VA range that TTBR0 translates.
-fn lower_range(g: El1) -> VaRange
-    ensures { λ r. ⌜ r ≡ Roots.rangeOf (TcrFields.ips (g .tcr)) (TcrFields.t0sz (g .tcr)) (TcrFields.epd0 (g .tcr)) (g .ttbr0) ⌝ }
+// With stage 2 off no walk starts.
+fn start2_if(on: bool, r: El2) -> Start
+    ensures { λ s. ⌜ Starts s (pick on (Roots.root2 r) (Unusable Translation 0)) ⌝ }
 {
-    let tcr = g.tcr;
-    range_of(tcr.ips(), tcr.t0sz(), tcr.epd0(), g.ttbr0)
-}
-
-// The VA range that TTBR1 translates.
-fn upper_range(g: El1) -> VaRange
-    ensures { λ r. ⌜ r ≡ Roots.rangeOf (TcrFields.ips (g .tcr)) (TcrFields.t1sz (g .tcr)) (TcrFields.epd1 (g .tcr)) (g .ttbr1) ⌝ }
-{
-    let tcr = g.tcr;
-    range_of(tcr.ips(), tcr.t1sz(), tcr.epd1(), g.ttbr1)
-}
-
-pub fn stage1(r: El2, g: El1) -> stages::stage1::Stage1
-    ensures { λ s. ⌜ s ≡ Roots.stage1 r g ⌝ }
-{
-    let hcr = r.hcr;
-    let tcr = g.tcr;
-    let sctlr = g.sctlr;
-    stages::stage1::Stage1 {
-        on: settings::stage1_on(r, g),
-        pamax: r.pamax,
-        dc: hcr.dc(),
-        tbi0: tcr.tbi0(),
-        tbi1: tcr.tbi1(),
-        lower: lower_range(g),
-        upper: upper_range(g),
-        mair: g.mair,
-        c: sctlr.c(),
-        i: sctlr.i(),
-        wxn: sctlr.wxn(),
+    if on {
+        start2(r)
+    } else {
+        start::nowhere(Ending::Translation, 0)
     }
 }
 
-pub fn stage2(r: El2) -> walk::stage2::Stage2
-    ensures { λ s. ⌜ s ≡ Roots.stage2 r ⌝ }
+// Stage 2 for walks.
+pub fn prepared2(r: El2) -> Prepared2
+    ensures { λ p. ⌜ (stage2Of p ≡ Calls.narrowed2 r) × Sound2 p ⌝ }
 {
+    let on = settings::stage2_on(r);
     let hcr = r.hcr;
     let vtcr = r.vtcr;
-    walk::stage2::Stage2 {
-        on: settings::stage2_on(r),
-        inputsize: 64 - vtcr.t0sz(),
-        root: root2(r),
+    let inputsize = 64 - vtcr.t0sz();
+    Prepared2 {
+        on,
+        inputsize,
+        limit: turn::limit(inputsize),
+        start: start2_if(on, r),
         cd: hcr.cd(),
         id: hcr.id(),
         ptw: hcr.ptw(),
+    }
+}
+
+// What attributes go by.
+pub fn memory(r: El2, g: El1) -> Memory
+    ensures { λ m. ⌜ m ≡ memoryOf (Roots.stage1 r g) (Roots.stage2 r) ⌝ }
+{
+    let hcr = r.hcr;
+    let sctlr = g.sctlr;
+    Memory {
+        on1: settings::stage1_on(r, g),
+        dc: hcr.dc(),
+        mair: g.mair,
+        c: sctlr.c(),
+        i: sctlr.i(),
+        on2: settings::stage2_on(r),
+        cd: hcr.cd(),
+        id: hcr.id(),
     }
 }

@@ -1,4 +1,3 @@
-pub mod Tops
 pub mod Ranges
 pub mod Counts
 pub mod Accesses

@@ -35,7 +35,7 @@ use Rattle.walk.proofs.Ends.{outcome-passed, outcome-stopped, fault-stop, start
 use Rattle.walk.proofs.Turns.{from-enters}
 use Rattle.stages.specs.Stage1.{top, place1, root1At, stage1Off, translate1}
 use Rattle.stages.specs.Stages.{finish, access}
-use Rattle.stages.specs.Calls.{arrived, atFirst, offDevice, offEnding, Opens, walks, passes}
+use Rattle.stages.specs.Calls.{arrived, atFirst, offDevice, offEnding, stage1Of, Opens, walks, passes}
 use Rattle.stages.specs.declared.stage1.Stage1.{Stage1}
 use Rattle.stages.specs.declared.stage1.Prepared1.{Prepared1}
 use Rattle.stages.specs.declared.stage1.Opening.{Opening}
@@ -80,19 +80,19 @@ by-root m s2 a {log = log} {l} {k} {end} {o} e q = subst (λ z. Ran m (walkFrom 
 
 module _ (p : Prepared1) (a : Access) (o : Opening) where
   -- a walk starts at a root that is of use
-  pub opens-fit : Opens p a o → passed (o .ending) ≡ true → p .stage .on ≡ true → (root1At (p .stage) (a .address) ≡ Usable (o .start .table)) × Fit (o .start)
-  opens-fit (walks on w e l starts ipa) q one = starts-usable (o .start) (root1At (p .stage) (a .address)) starts (rw e at q)
+  pub opens-fit : Opens p a o → passed (o .ending) ≡ true → p .on ≡ true → (root1At (stage1Of p) (a .address) ≡ Usable (o .start .table)) × Fit (o .start)
+  opens-fit (walks on w e l starts ipa) q one = starts-usable (o .start) (root1At (stage1Of p) (a .address)) starts (rw e at q)
   opens-fit (passes off w e l within ipa) q one = absurd (true≢false (sym one ∙ off))
 
   pub opens-within : Opens p a o → Within (o .start)
-  opens-within (walks on w e l starts ipa) = starts-within (o .start) (root1At (p .stage) (a .address)) starts
+  opens-within (walks on w e l starts ipa) = starts-within (o .start) (root1At (stage1Of p) (a .address)) starts
   opens-within (passes off w e l within ipa) = within
 
 module _ (m : Request → Read) (s2 : Stage2) (p : Prepared1) (a : Access) (o : Opening) (log : List ℕ) where
   pub opens-going : Opens p a o → passed (o .ending) ≡ true →
-      Going m (p .stage) s2 a (o .start .table .geometry) log log (o .walking) (o .start .table .levels - 1) (o .start .shift) (o .ipa) 0 0 0 0
+      Going m (stage1Of p) s2 a (o .start .table .geometry) log log (o .walking) (o .start .table .levels - 1) (o .start .shift) (o .ipa) 0 0 0 0
   opens-going (walks on w e l starts ipa) q =
-      let u = starts-usable (o .start) (root1At (p .stage) (a .address)) starts (rw e at q) in
+      let u = starts-usable (o .start) (root1At (stage1Of p) (a .address)) starts (rw e at q) in
       let f = u .1 in
       let g = o .start .table .geometry in
       let n = o .start .table .levels - 1 in
@@ -108,17 +108,17 @@ module _ (m : Request → Read) (s2 : Stage2) (p : Prepared1) (a : Access) (o : 
       (omega (arith, f .small .levels))
   opens-going (passes off w e l within ipa) q =
       Calls.ends w
-      (rw (ipa, pick-false (p .stage .on) _ (stage1OffAttributes (p .stage .dc) (isFetch a) (p .stage .i)) off)
-      (rw (outcome-passed One (offOutput (p .stage) a) (stoppedBy (offEnding (p .stage) a) 0 0) (rw e at q)) at (ran-off m (p .stage) s2 a log off)))
+      (rw (ipa, pick-false (p .on) _ (stage1OffAttributes (p .dc) (isFetch a) (p .i)) off)
+      (rw (outcome-passed One (offOutput (stage1Of p) a) (stoppedBy (offEnding (stage1Of p) a) 0 0) (rw e at q)) at (ran-off m (stage1Of p) s2 a log off)))
       (omega arith)
 
   -- or no access begins
-  pub opens-stopped : Opens p a o → passed (o .ending) ≡ false → Ran m (access (p .stage) s2 a) log 0 (arrived (p .stage) s2 a (atFirst (stoppedBy (o .ending) (o .level) 0))) 0 log
+  pub opens-stopped : Opens p a o → passed (o .ending) ≡ false → Ran m (access (stage1Of p) s2 a) log 0 (arrived (stage1Of p) s2 a (atFirst (stoppedBy (o .ending) (o .level) 0))) 0 log
   unfolding access walkFrom
   opens-stopped (walks on w e l starts ipa) q =
-      let u = starts-unusable (o .start) (root1At (p .stage) (a .address)) starts (rw e at q) in
-      first-stopped m (p .stage) s2 a (stoppedBy (o .ending) (o .level) 0) q
-      (rw (e, l, u .2, fault-stop One 0 (o .start .level) (u .0)) (stopped-walk m (p .stage) s2 a on (by-root m s2 a (u .1) (ran-stop m _ _ _))))
+      let u = starts-unusable (o .start) (root1At (stage1Of p) (a .address)) starts (rw e at q) in
+      first-stopped m (stage1Of p) s2 a (stoppedBy (o .ending) (o .level) 0) q
+      (rw (e, l, u .2, fault-stop One 0 (o .start .level) (u .0)) (stopped-walk m (stage1Of p) s2 a on (by-root m s2 a (u .1) (ran-stop m _ _ _))))
   opens-stopped (passes off w e l within ipa) q =
-      first-stopped m (p .stage) s2 a (stoppedBy (o .ending) (o .level) 0) q
-      (rw (e, l) (ran-stopped m (finish s2 a) (rw (outcome-stopped One (offOutput (p .stage) a) (stoppedBy (offEnding (p .stage) a) 0 0) (rw e at q)) at (ran-off m (p .stage) s2 a log off))))
+      first-stopped m (stage1Of p) s2 a (stoppedBy (o .ending) (o .level) 0) q
+      (rw (e, l) (ran-stopped m (finish s2 a) (rw (outcome-stopped One (offOutput (stage1Of p) a) (stoppedBy (offEnding (stage1Of p) a) 0 0) (rw e at q)) at (ran-off m (stage1Of p) s2 a log off))))

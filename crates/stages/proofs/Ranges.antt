@@ -3,20 +3,20 @@
 -- Assumes nothing.
 use mathlib.Core.Path.{_≡_, refl, sym, ap, _∙_}
 use mathlib.Core.Bool.{Bool, true, false, not}
-use Prim.Native.Nat.{ℕ, _+_, _-_, _*_, _/_, _%_, _^_, _≤_, _<_}
+use Prim.Native.Nat.{ℕ, suc, _+_, _-_, _*_, _/_, _%_, _^_, _≤_, _<_}
 use native.Mathlib.Nat.{mod-eq-of-lt, div-eq-of-lt, lt-of-lt-of-le, le-trans, le-antisymm, le-div-iff-mul-le, div-lt-iff-lt-mul, lt-div-mul-add}
 use native.Mathlib.Omega.{arith}
 use lib.Dec.{eqb, leb, ltb, lit<, lit≤}
 use lib.Pow.{pow-pos, pow-mono, shr-mono}
 use borrow.Author.Tests.{ltb-true, ltb-false, leb-true, leb-false, eqb-true, eqb-false, lt-ltb, le-leb, lt-leb, eq-eqb, ne-eqb}
 use Rattle.bits.specs.Bits.{pick, bit}
-use Rattle.bits.proofs.Tests.{by-pick, pick-false}
+use Rattle.bits.proofs.Tests.{by-pick, pick-true, pick-false}
 use Rattle.bits.proofs.Shifts.{shifted-out}
 use Rattle.descriptor.specs.declared.entry.FaultKind.the-variants.{Translation}
 use Rattle.walk.specs.declared.table.Root.{Root}
 use Rattle.walk.specs.declared.table.Root.the-variants.{Unusable}
 use Rattle.stages.specs.Stage1.{root1At}
-use Rattle.stages.specs.Ranges.{ones, within, boundsOf, rangeAt, rootAt, Narrow, limited, disabled}
+use Rattle.stages.specs.Ranges.{counted, ones, within, boundsOf, rangeAt, rootAt, Narrow, limited, disabled}
 use Rattle.stages.specs.declared.stage1.VaRange.{VaRange}
 use Rattle.stages.specs.declared.stage1.Stage1.{Stage1}
 use Rattle.stages.specs.declared.range.Range.the-variants.{Lower, Upper, Neither}
@@ -120,3 +120,14 @@ module _ (s : Stage1) (a : ℕ) (fits : a < 2 ^ 64) (lower : Narrow (s .lower)) 
 
   pub root1-range : root1At s a ≡ rootAt s (rangeAt (boundsOf s) a)
   root1-range = by-bits (bit a 55) _ (bit a 63) refl refl refl
+
+-- ---- with stage 1 off
+
+-- the bits that count are those up to Top
+counted-top : (a : ℕ) (tbi : Bool) → a < 2 ^ 64 → counted tbi a ≡ a % 2 ^ suc (pick {A = ℕ} tbi 55 63)
+unfolding pick
+counted-top a true fits = refl
+counted-top a false fits = sym (mod-eq-of-lt fits)
+
+pub below-ceiling : (a n : ℕ) {ceiling : ℕ} (tbi : Bool) → a < 2 ^ 64 → ceiling ≡ 2 ^ n → not (leb ceiling (counted tbi a)) ≡ eqb (a % 2 ^ suc (pick {A = ℕ} tbi 55 63) / 2 ^ n) 0
+below-ceiling a n tbi fits e = rw (e, counted-top a tbi fits) (sym (none-above _ n))

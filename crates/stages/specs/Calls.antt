@@ -3,7 +3,7 @@
 use mathlib.Core.Path.{_≡_}
 use mathlib.Core.Bool.{Bool, true, false, not, _&&_, _||_}
 use mathlib.Core.List.{List}
-use Prim.Native.Nat.{ℕ, suc, _+_, _*_, _/_, _%_, _^_}
+use Prim.Native.Nat.{ℕ, suc, _+_, _*_, _/_, _%_, _^_, _<_}
 use lib.Dec.{eqb}
 use Rattle.bits.specs.Bits.{pick, field}
 use Rattle.reads.specs.Program.{Request, Outcome, reached, stopped}
@@ -18,7 +18,10 @@ use Rattle.descriptor.specs.Turn.{imposed}
 use Rattle.walk.specs.Checks.{misaligned}
 use Rattle.walk.specs.Stage2.{uncached2}
 use Rattle.walk.specs.Ends.{outcome, verdict}
-use Rattle.walk.specs.Calls.{Within, Starts}
+use Rattle.walk.specs.Calls.{Within, Starts, rootOf}
+use Rattle.descriptor.specs.declared.entry.FaultKind.the-variants as F
+use Rattle.walk.specs.declared.table.Root.{Root}
+use Rattle.walk.specs.declared.table.Root.the-variants.{Unusable}
 use Rattle.walk.specs.declared.stop.Stage.{Stage}
 use Rattle.walk.specs.declared.stop.Stage.the-variants.{One, Two}
 use Rattle.walk.specs.declared.stop.Stop.{Stop}
@@ -39,6 +42,7 @@ use Rattle.stages.specs.declared.both.Reached.the-variants as R
 use Rattle.stages.specs.declared.both.By.{By}
 use Rattle.stages.specs.declared.both.By.the-variants.{First, OnWalk, Second}
 use Rattle.stages.specs.declared.both.Arrival.{Arrival}
+use Rattle.stages.specs.declared.both.Memory.{Memory}
 
 unfoldable pub outcomeOf : Reached → Outcome Stop Translation
 outcomeOf (R.To t) = reached t
@@ -73,6 +77,33 @@ arrived s1 s2 a r = outcome (stageBy (r .by) (r .ipa)) (finishedAt s2 a (outputO
 abbrev pub atFirst : End → Arrival
 atFirst e = record { by = First; end = e; ipa = 0; level1 = 0; word1 = 0 }
 
+-- stages of which only what attributes go by is told
+abbrev nowhere : Root
+nowhere = Unusable F.Translation 0
+
+abbrev pub memory1 : Memory → Stage1
+memory1 m =
+    record {
+      on = m .on1;
+      pamax = 0;
+      dc = m .dc;
+      tbi0 = false;
+      tbi1 = false;
+      lower = record { inputsize = 0; root = nowhere };
+      upper = record { inputsize = 0; root = nowhere };
+      mair = m .mair;
+      c = m .c;
+      i = m .i;
+      wxn = false;
+    }
+
+abbrev pub memory2 : Memory → Stage2
+memory2 m = record { on = m .on2; inputsize = 0; root = nowhere; cd = m .cd; id = m .id; ptw = false }
+
+-- what attributes go by in two stages
+abbrev pub memoryOf : Stage1 → Stage2 → Memory
+memoryOf s1 s2 = record { on1 = s1 .on; dc = s1 .dc; mair = s1 .mair; c = s1 .c; i = s1 .i; on2 = s2 .on; cd = s2 .cd; id = s2 .id }
+
 -- ---- stage 1
 
 -- what the checks after its walk leave, by the leaf's descriptor and the words of its tables
@@ -88,17 +119,35 @@ abbrev pub offEnding : Stage1 → Access → Ending
 offEnding s a =
     pick (eqb (a .address % 2 ^ suc (top s (a .address)) / 2 ^ (s .pamax)) 0) (pick (offDevice s a && unaligned a) E.Misaligned E.Passed) E.AddressSize
 
--- stage 1's words are those of the stage
+-- the stage that words stand for
+abbrev pub stage1Of : Prepared1 → Stage1
+stage1Of p =
+    record {
+      on = p .on;
+      pamax = p .pamax;
+      dc = p .dc;
+      tbi0 = p .bounds .tbi0;
+      tbi1 = p .bounds .tbi1;
+      lower = record { inputsize = p .size0; root = rootOf (p .lower) };
+      upper = record { inputsize = p .size1; root = rootOf (p .upper) };
+      mair = p .mair;
+      c = p .c;
+      i = p .i;
+      wxn = p .wxn;
+    }
+
+-- stage 1's words go together
 pub record Sound1 (p : Prepared1) : Type 0 where
-  pub bounds : p .bounds ≡ boundsOf (p .stage)
-  pub lower : p .stage .on ≡ true → Starts (p .lower) (p .stage .lower .root) × Narrow (p .stage .lower)
-  pub upper : p .stage .on ≡ true → Starts (p .upper) (p .stage .upper .root) × Narrow (p .stage .upper)
+  pub bounds : p .bounds ≡ boundsOf (stage1Of p)
+  pub pamax : p .pamax < 64
+  pub lower : p .on ≡ true → Starts (p .lower) (rootOf (p .lower)) × Narrow (stage1Of p .lower)
+  pub upper : p .on ≡ true → Starts (p .upper) (rootOf (p .upper)) × Narrow (stage1Of p .upper)
 
 -- where an access begins
 pub data Opens (p : Prepared1) (a : Access) (o : Opening) : Type 0 where
-  walks : p .stage .on ≡ true → o .walking ≡ true → o .ending ≡ o .start .ending → o .level ≡ o .start .level → Starts (o .start) (root1At (p .stage) (a .address)) →
+  walks : p .on ≡ true → o .walking ≡ true → o .ending ≡ o .start .ending → o .level ≡ o .start .level → Starts (o .start) (root1At (stage1Of p) (a .address)) →
       o .ipa ≡ o .start .table .base + 8 * field (a .address) (o .start .shift) (o .start .table .bits) → Opens p a o
-  passes : p .stage .on ≡ false → o .walking ≡ false → o .ending ≡ offEnding (p .stage) a → o .level ≡ 0 → Within (o .start) → o .ipa ≡ a .address % 2 ^ 48 → Opens p a o
+  passes : p .on ≡ false → o .walking ≡ false → o .ending ≡ offEnding (stage1Of p) a → o .level ≡ 0 → Within (o .start) → o .ipa ≡ a .address % 2 ^ 48 → Opens p a o
 
 -- ---- stage 2, if it is on: of a stage 1 descriptor, and of stage 1's output
 pub record Seconded (m : Request → Read) (s : Stage2) (a : Access) (w : Bool) (ipa : ℕ) (log : List ℕ) (count : ℕ) (r : End) (log′ : List ℕ) : Type 0 where

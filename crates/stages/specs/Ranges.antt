@@ -1,4 +1,4 @@
--- Stage 1's VA range of an address, by bit 55 and one comparison, and the stages that an access may be called with.
+-- Stage 1's VA range of an address, by bit 55 and one comparison.
 -- With such stages this range's root is the one of Stage1.antt (proofs/Ranges.antt).
 -- Assumes nothing.
 use mathlib.Core.Path.{_≡_}
@@ -7,10 +7,8 @@ use Prim.Native.Nat.{ℕ, _-_, _*_, _/_, _%_, _^_, _≤_}
 use lib.Dec.{leb, ltb}
 use Rattle.bits.specs.Bits.{pick, bit}
 use Rattle.descriptor.specs.declared.entry.FaultKind.the-variants.{Translation}
-use Rattle.walk.specs.Calls.{SmallRoot}
 use Rattle.walk.specs.declared.table.Root.{Root}
 use Rattle.walk.specs.declared.table.Root.the-variants.{Unusable}
-use Rattle.walk.specs.declared.stage2.Stage2.{Stage2}
 use Rattle.stages.specs.declared.stage1.VaRange.{VaRange}
 use Rattle.stages.specs.declared.stage1.Stage1.{Stage1}
 use Rattle.stages.specs.declared.range.Range.{Range}
@@ -34,9 +32,11 @@ abbrev pub floor : (tbi : Bool) → ℕ → ℕ
 floor tbi n = ones tbi / 2 ^ n * 2 ^ n
 
 -- what tells the range of any address
+abbrev pub bounds : (tbi0 tbi1 : Bool) (lower upper pamax : ℕ) → Bounds
+bounds tbi0 tbi1 lower upper pamax = record { tbi0 = tbi0; tbi1 = tbi1; within = within lower; floor = floor tbi1 upper; ceiling = within pamax }
+
 unfoldable pub boundsOf : Stage1 → Bounds
-boundsOf s =
-    record { tbi0 = s .tbi0; tbi1 = s .tbi1; within = within (s .lower .inputsize); floor = floor (s .tbi1) (s .upper .inputsize) }
+boundsOf s = bounds (s .tbi0) (s .tbi1) (s .lower .inputsize) (s .upper .inputsize) (s .pamax)
 
 -- the range of an address
 unfoldable pub rangeAt : Bounds → ℕ → Range
@@ -55,9 +55,3 @@ rootAt s Neither = Unusable Translation 0
 pub data Narrow (r : VaRange) : Type 0 where
   limited : r .inputsize ≤ 48 → Narrow r
   disabled : r .root ≡ Unusable Translation 0 → Narrow r
-
--- stages that an access may be called with. Accepted registers always give such stages (regime/proofs/Ready.antt).
-pub record Walkable (s1 : Stage1) (s2 : Stage2) : Type 0 where
-  pub lower : s1 .on ≡ true → SmallRoot (s1 .lower .root) × Narrow (s1 .lower)
-  pub upper : s1 .on ≡ true → SmallRoot (s1 .upper .root) × Narrow (s1 .upper)
-  pub second : SmallRoot (s2 .root)

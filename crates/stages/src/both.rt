@@ -2,7 +2,6 @@
 use crate::stage1;
 use crate::stage1::Opening;
 use crate::stage1::Prepared1;
-use crate::stage1::Stage1;
 use access::Access;
 use attributes::Attributes;
 use descriptor::entry;
@@ -14,7 +13,6 @@ use walk::end::End;
 use walk::end::Ending;
 use walk::stage2;
 use walk::stage2::Prepared2;
-use walk::stage2::Stage2;
 use walk::stop;
 use walk::stop::Missing;
 use walk::stop::Open;
@@ -28,7 +26,7 @@ ghost use Rattle.bits.specs.Bits.{pick};
 ghost use Rattle.reads.specs.Ran.{Ran};
 ghost use Rattle.access.specs.Access.{listedSize};
 ghost use Rattle.capture.specs.Capture.{captured};
-ghost use Rattle.walk.specs.Calls.{Sound2};
+ghost use Rattle.walk.specs.Calls.{Sound2, stage2Of};
 ghost use Rattle.walk.specs.Ends as Ends;
 ghost use Rattle.stages.specs.declared.both.By.the-variants as Bys;
 ghost use Rattle.walk.specs.Stage2 as Seconds;
@@ -80,10 +78,9 @@ fn second(
     count: usize,
 ) -> End
     requires { ⌜ Sound2 p × (listedSize (a .size) ≡ true) × (base + length (now bytes) ≤ 2 ^ 64) × (count + 4 ≤ length (now log)) ⌝ }
-    ensures { λ r. ⌜ Calls.Seconded (captured base (now (bytes .entry))) (p .stage) a onwalk ipa (now (log .entry)) count r (now (log .exit)) × (r .count ≤ count + 4) ⌝ }
+    ensures { λ r. ⌜ Calls.Seconded (captured base (now (bytes .entry))) (stage2Of p) a onwalk ipa (now (log .entry)) count r (now (log .exit)) × (r .count ≤ count + 4) ⌝ }
 {
-    let s = p.stage;
-    let on = s.on;
+    let on = p.on;
     if on {
         stage2::translate2(bytes, base, p, a, onwalk, ipa, log, count)
     } else {
@@ -127,9 +124,8 @@ fn walk1(
     log: &mut [u64],
 ) -> Arrival
     requires { ⌜ Sound2 q × (listedSize (a .size) ≡ true) × (base + length (now bytes) ≤ 2 ^ 64) × (24 ≤ length (now log)) × Calls.Opens p a o × (Ends.passed (o .ending) ≡ true) ⌝ }
-    ensures { λ r. ⌜ Ran (captured base (now (bytes .entry))) (Stages.access (p .stage) (q .stage) a) (now (log .entry)) 0 (Calls.arrived (p .stage) (q .stage) a r) (r .end .count) (now (log .exit)) × (r .end .count ≤ 24) ⌝ }
+    ensures { λ r. ⌜ Ran (captured base (now (bytes .entry))) (Stages.access (Calls.stage1Of p) (stage2Of q) a) (now (log .entry)) 0 (Calls.arrived (Calls.stage1Of p) (stage2Of q) a r) (r .end .count) (now (log .exit)) × (r .end .count ≤ 24) ⌝ }
 {
-    let s = p.stage;
     let input = a.address;
     let start = o.start;
     let masks = start.masks;
@@ -172,7 +168,7 @@ fn walk1(
                             tables = tables | x;
                             ipa = turn::next_entry(g, masks, x, input, shift);
                         } else {
-                            let ended = stage1::at_entry(s, a, tables, turn, x);
+                            let ended = stage1::at_entry(p, a, tables, turn, x);
                             if end::passed(ended) {
                                 walking = false;
                                 ipa = entry::output_address(x, shift, input);
@@ -215,7 +211,7 @@ pub fn access(
     log: &mut [u64],
 ) -> Arrival
     requires { ⌜ Calls.Sound1 p × Sound2 q × (listedSize (a .size) ≡ true) × (base + length (now bytes) ≤ 2 ^ 64) × (24 ≤ length (now log)) ⌝ }
-    ensures { λ r. ⌜ Ran (captured base (now (bytes .entry))) (Stages.access (p .stage) (q .stage) a) (now (log .entry)) 0 (Calls.arrived (p .stage) (q .stage) a r) (r .end .count) (now (log .exit)) × (r .end .count ≤ 24) ⌝ }
+    ensures { λ r. ⌜ Ran (captured base (now (bytes .entry))) (Stages.access (Calls.stage1Of p) (stage2Of q) a) (now (log .entry)) 0 (Calls.arrived (Calls.stage1Of p) (stage2Of q) a r) (r .end .count) (now (log .exit)) × (r .end .count ≤ 24) ⌝ }
 {
     let o = stage1::opening_of(p, a);
     let ending = o.ending;
@@ -227,45 +223,59 @@ pub fn access(
     }
 }
 
+// What attributes go by, beside the descriptors of leaves.
+pub struct Memory {
+    // Stage 1's, with HCR_EL2.DC, SCTLR_EL1.C and I.
+    pub on1: bool,
+    pub dc: bool,
+    pub mair: u64,
+    pub c: bool,
+    pub i: bool,
+    // Stage 2's, with HCR_EL2.CD and ID.
+    pub on2: bool,
+    pub cd: bool,
+    pub id: bool,
+}
+
 // C counts for data, I for a fetch.
-fn uncached1(s: Stage1, a: Access) -> bool
-    ensures { λ r. ⌜ r ≡ Definitions.uncached1 s a ⌝ }
+fn uncached1(m: Memory, a: Access) -> bool
+    ensures { λ r. ⌜ r ≡ Definitions.uncached1 (Calls.memory1 m) a ⌝ }
 {
-    let c = s.c;
-    let i = s.i;
+    let c = m.c;
+    let i = m.i;
     if access::is_fetch(a) { !i } else { !c }
 }
 
 // CD counts for data, ID for a fetch.
-fn uncached2(s: Stage2, a: Access) -> bool
-    ensures { λ r. ⌜ r ≡ Seconds.uncached2 s a false ⌝ }
+fn uncached2(m: Memory, a: Access) -> bool
+    ensures { λ r. ⌜ r ≡ Seconds.uncached2 (Calls.memory2 m) a false ⌝ }
 {
-    let cd = s.cd;
-    let id = s.id;
+    let cd = m.cd;
+    let id = m.id;
     if access::is_fetch(a) { id } else { cd }
 }
 
 // Stage 1's attributes, by its leaf's descriptor.
-fn attributes1(s: Stage1, a: Access, word: u64) -> Attributes
-    ensures { λ r. ⌜ r ≡ Calls.attributes1 s a word ⌝ }
+fn attributes1(m: Memory, a: Access, word: u64) -> Attributes
+    ensures { λ r. ⌜ r ≡ Calls.attributes1 (Calls.memory1 m) a word ⌝ }
 {
-    let on = s.on;
-    let dc = s.dc;
-    let i = s.i;
+    let on = m.on1;
+    let dc = m.dc;
+    let i = m.i;
     if on {
-        attributes::settled_part(attributes::stage1_attributes(s.mair, uncached1(s, a), word))
+        attributes::settled_part(attributes::stage1_attributes(m.mair, uncached1(m, a), word))
     } else {
         attributes::stage1_off_attributes(dc, access::is_fetch(a), i)
     }
 }
 
 // With stage 2's, by its leaf's descriptor.
-fn combined(s: Stage2, a: Access, one: Attributes, word: u64) -> Attributes
-    ensures { λ r. ⌜ r ≡ Calls.combined s a one word ⌝ }
+fn combined(m: Memory, a: Access, one: Attributes, word: u64) -> Attributes
+    ensures { λ r. ⌜ r ≡ Calls.combined (Calls.memory2 m) a one word ⌝ }
 {
-    let on = s.on;
+    let on = m.on2;
     if on {
-        let two = attributes::settled_part(attributes::stage2_attributes(uncached2(s, a), word));
+        let two = attributes::settled_part(attributes::stage2_attributes(uncached2(m, a), word));
         attributes::combine(one, two)
     } else {
         one
@@ -305,8 +315,8 @@ fn stop_by(s: Stage, address: u64, level: u64, ending: Ending) -> Stop
 }
 
 // How an access ends, from its plain words. Attributes are decoded here, once.
-pub fn reached_by(s1: Stage1, s2: Stage2, a: Access, r: Arrival) -> Reached
-    ensures { λ z. ⌜ Calls.outcomeOf z ≡ Calls.arrived s1 s2 a r ⌝ }
+pub fn reached_by(m: Memory, a: Access, r: Arrival) -> Reached
+    ensures { λ z. ⌜ Calls.outcomeOf z ≡ Calls.arrived (Calls.memory1 m) (Calls.memory2 m) a r ⌝ }
 {
     let end = r.end;
     let ending = end.ending;
@@ -315,7 +325,7 @@ pub fn reached_by(s1: Stage1, s2: Stage2, a: Access, r: Arrival) -> Reached
     if end::passed(ending) {
         Reached::To(Translation {
             address,
-            attributes: combined(s2, a, attributes1(s1, a, r.word1), end.word),
+            attributes: combined(m, a, attributes1(m, a, r.word1), end.word),
             level1: r.level1,
             level2: level,
         })

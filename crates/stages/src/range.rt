@@ -1,6 +1,8 @@
-// Stage 1's VA range of an address, by bit 55 and one comparison.
-use crate::stage1::Stage1;
+// Stage 1's VA range of an address, by bit 55 and one comparison; and with stage 1 off whether it is an address at all.
 ghost use mathlib.Core.Path.{_≡_};
+ghost use Prim.Native.Nat.{ℕ, suc, _/_, _%_, _^_};
+ghost use lib.Dec.{eqb};
+ghost use Rattle.bits.specs.Bits.{pick, bit};
 ghost use Rattle.stages.specs.Ranges as Ranges;
 
 // Which VA range an address lies in.
@@ -19,6 +21,8 @@ pub struct Bounds {
     pub within: u64,
     // The first address of the upper range, as far as bits count.
     pub floor: u64,
+    // 2 to PAMax, which counts with stage 1 off.
+    pub ceiling: u64,
 }
 
 // The bits of an address that count.
@@ -62,18 +66,15 @@ fn floor(tbi: bool, inputsize: u64) -> u64
 }
 
 // What tells the range of any address, once for all of them.
-pub fn bounds_of(s: Stage1) -> Bounds
-    ensures { λ r. ⌜ r ≡ Ranges.boundsOf s ⌝ }
+pub fn bounds_of(tbi0: bool, tbi1: bool, lower: u64, upper: u64, pamax: u64) -> Bounds
+    ensures { λ r. ⌜ r ≡ Ranges.bounds tbi0 tbi1 lower upper pamax ⌝ }
 {
-    let lower = s.lower;
-    let upper = s.upper;
-    let tbi0 = s.tbi0;
-    let tbi1 = s.tbi1;
     Bounds {
         tbi0,
         tbi1,
-        within: within(lower.inputsize),
-        floor: floor(tbi1, upper.inputsize),
+        within: within(lower),
+        floor: floor(tbi1, upper),
+        ceiling: within(pamax),
     }
 }
 
@@ -93,5 +94,16 @@ pub fn range_at(b: Bounds, address: u64) -> Range
         } else {
             Range::Lower
         }
+    }
+}
+
+// With stage 1 off: the bits of an address that count lie below PAMax.
+pub fn in_pamax(b: Bounds, address: u64) -> bool
+    ensures { λ r. ⌜ ((n : ℕ) → b .ceiling ≡ 2 ^ n → r ≡ eqb (address % 2 ^ suc (pick {A = ℕ} (pick (bit address 55) (b .tbi1) (b .tbi0)) 55 63) / 2 ^ n) 0) ⌝ }
+{
+    if bits::bit(address, 55) {
+        !(b.ceiling <= counted(b.tbi1, address))
+    } else {
+        !(b.ceiling <= counted(b.tbi0, address))
     }
 }

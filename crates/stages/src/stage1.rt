@@ -23,18 +23,18 @@ ghost use Rattle.descriptor.specs.Permission.{stage1Permits};
 ghost use Rattle.descriptor.specs.Turn.{imposed};
 ghost use Rattle.walk.specs.Checks.{misaligned};
 ghost use Rattle.walk.specs.Ends as Ends;
-ghost use Rattle.walk.specs.Calls.{SmallRoot, Starts};
+ghost use Rattle.walk.specs.Calls.{Starts};
 ghost use Rattle.stages.specs.Stage1 as Definitions;
 ghost use Rattle.stages.specs.Ranges.{Narrow};
 ghost use Rattle.stages.specs.Calls as Calls;
 
-// One VA range of stage 1: its input size in bits, and its root.
+// One VA range of stage 1, for the definitions: its input size in bits, and its root.
 pub struct VaRange {
     pub inputsize: u64,
     pub root: Root,
 }
 
-// What registers say of stage 1.
+// What registers say of stage 1, for the definitions.
 pub struct Stage1 {
     pub on: bool,
     pub pamax: u64,
@@ -53,47 +53,27 @@ pub struct Stage1 {
     pub wxn: bool,
 }
 
-// Stage 1 with what its walks go by, worked out once for all addresses.
+// The same in the words that its walks go by, worked out once for all addresses.
 pub struct Prepared1 {
-    pub stage: Stage1,
+    pub on: bool,
+    pub pamax: u64,
+    pub dc: bool,
     pub bounds: Bounds,
+    // The input size and the start of each VA range.
+    pub size0: u64,
+    pub size1: u64,
     pub lower: Start,
     pub upper: Start,
-}
-
-// With stage 1 off no walk starts, and nothing is known of its roots.
-fn start_if(on: bool, root: Root) -> Start
-    requires { ⌜ (on ≡ true → SmallRoot root) ⌝ }
-    ensures { λ r. ⌜ (on ≡ true → Starts r root) ⌝ }
-{
-    if on {
-        start::start_of(root)
-    } else {
-        start::nowhere(Ending::Translation, 0)
-    }
-}
-
-pub fn prepare1(s: Stage1) -> Prepared1
-    requires { ⌜ (s .on ≡ true → SmallRoot (s .lower .root) × Narrow (s .lower)) × (s .on ≡ true → SmallRoot (s .upper .root) × Narrow (s .upper)) ⌝ }
-    ensures { λ r. ⌜ (r .stage ≡ s) × Calls.Sound1 r ⌝ }
-{
-    let on = s.on;
-    let lower = s.lower;
-    let upper = s.upper;
-    let root0 = lower.root;
-    let root1 = upper.root;
-    Prepared1 {
-        stage: s,
-        bounds: range::bounds_of(s),
-        lower: start_if(on, root0),
-        upper: start_if(on, root1),
-    }
+    pub mair: u64,
+    pub c: bool,
+    pub i: bool,
+    pub wxn: bool,
 }
 
 // The start for an address.
 fn start_at(p: Prepared1, address: u64) -> Start
-    requires { ⌜ Calls.Sound1 p × (p .stage .on ≡ true) ⌝ }
-    ensures { λ r. ⌜ Starts r (Definitions.root1At (p .stage) address) ⌝ }
+    requires { ⌜ Calls.Sound1 p × (p .on ≡ true) ⌝ }
+    ensures { λ r. ⌜ Starts r (Definitions.root1At (Calls.stage1Of p) address) ⌝ }
 {
     let bounds = p.bounds;
     let lower = p.lower;
@@ -106,53 +86,21 @@ fn start_at(p: Prepared1, address: u64) -> Start
     }
 }
 
-// The highest bit of an address that counts.
-fn top(s: Stage1, a: u64) -> u64
-    ensures { λ r. ⌜ r ≡ Definitions.top s a ⌝ }
-{
-    let tbi0 = s.tbi0;
-    let tbi1 = s.tbi1;
-    if bits::bit(a, 55) {
-        if tbi1 { 55 } else { 63 }
-    } else {
-        if tbi0 { 55 } else { 63 }
-    }
-}
-
-// The bits of an address that count.
-fn counting(s: Stage1, a: u64) -> u64
-    ensures { λ r. ⌜ r ≡ a % 2 ^ suc (Definitions.top s a) ⌝ }
-{
-    if top(s, a) == 55 {
-        a % 0x100_0000_0000_0000
-    } else {
-        a
-    }
-}
-
-// Bits Top down to PAMax are 0.
-fn in_pamax(s: Stage1, a: u64) -> bool
-    ensures { λ r. ⌜ r ≡ eqb (a % 2 ^ suc (Definitions.top s a) / 2 ^ (s .pamax)) 0 ⌝ }
-{
-    let pamax = s.pamax;
-    let x = counting(s, a);
-    if pamax < 64 { x >> pamax == 0 } else { true }
-}
-
 // With stage 1 off all but DC and a fetch is Device memory.
-fn off_device(s: Stage1, a: Access) -> bool
-    ensures { λ r. ⌜ r ≡ Calls.offDevice s a ⌝ }
+fn off_device(p: Prepared1, a: Access) -> bool
+    ensures { λ r. ⌜ r ≡ Calls.offDevice (Calls.stage1Of p) a ⌝ }
 {
-    !s.dc & !access::is_fetch(a)
+    !p.dc & !access::is_fetch(a)
 }
 
 // Stage 1 off: the address as it is, if it is one.
-fn off(s: Stage1, a: Access) -> Ending
-    requires { ⌜ listedSize (a .size) ≡ true ⌝ }
-    ensures { λ r. ⌜ r ≡ Calls.offEnding s a ⌝ }
+fn off(p: Prepared1, a: Access) -> Ending
+    requires { ⌜ Calls.Sound1 p × (listedSize (a .size) ≡ true) ⌝ }
+    ensures { λ r. ⌜ r ≡ Calls.offEnding (Calls.stage1Of p) a ⌝ }
 {
-    if in_pamax(s, a.address) {
-        if off_device(s, a) & access::unaligned(a) {
+    let bounds = p.bounds;
+    if range::in_pamax(bounds, a.address) {
+        if off_device(p, a) & access::unaligned(a) {
             Ending::Misaligned
         } else {
             Ending::Passed
@@ -176,8 +124,7 @@ pub(crate) fn opening_of(p: Prepared1, a: Access) -> Opening
     requires { ⌜ Calls.Sound1 p × (listedSize (a .size) ≡ true) ⌝ }
     ensures { λ r. ⌜ Calls.Opens p a r ⌝ }
 {
-    let s = p.stage;
-    let on = s.on;
+    let on = p.on;
     let address = a.address;
     if on {
         let start = start_at(p, address);
@@ -192,7 +139,7 @@ pub(crate) fn opening_of(p: Prepared1, a: Access) -> Opening
         }
     } else {
         Opening {
-            ending: off(s, a),
+            ending: off(p, a),
             level: 0,
             walking: false,
             start: start::nowhere(Ending::Passed, 0),
@@ -202,17 +149,17 @@ pub(crate) fn opening_of(p: Prepared1, a: Access) -> Opening
 }
 
 // The checks after the walk, by the leaf's descriptor and what its tables impose.
-fn check1(s: Stage1, a: Access, tables: u64, x: u64) -> Ending
+fn check1(p: Prepared1, a: Access, tables: u64, x: u64) -> Ending
     requires { ⌜ listedSize (a .size) ≡ true ⌝ }
-    ensures { λ r. ⌜ r ≡ Calls.ending1 s a tables x ⌝ }
+    ensures { λ r. ⌜ r ≡ Calls.ending1 (Calls.stage1Of p) a tables x ⌝ }
 {
-    let class = attributes::stage1_class(s.mair, x);
+    let class = attributes::stage1_class(p.mair, x);
     match class {
         MemoryClass::Unsettled => Ending::Unsettled,
         MemoryClass::Device => {
             if access::unaligned(a) {
                 Ending::Misaligned
-            } else if !permission::stage1_permits(s.wxn, a, turn::imposed(tables), x)
+            } else if !permission::stage1_permits(p.wxn, a, turn::imposed(tables), x)
                 | access::is_fetch(a)
             {
                 Ending::Permission
@@ -221,7 +168,7 @@ fn check1(s: Stage1, a: Access, tables: u64, x: u64) -> Ending
             }
         }
         MemoryClass::Normal => {
-            if permission::stage1_permits(s.wxn, a, turn::imposed(tables), x) {
+            if permission::stage1_permits(p.wxn, a, turn::imposed(tables), x) {
                 Ending::Passed
             } else {
                 Ending::Permission
@@ -231,12 +178,12 @@ fn check1(s: Stage1, a: Access, tables: u64, x: u64) -> Ending
 }
 
 // What stage 1 makes of an entry that does not lead down.
-pub(crate) fn at_entry(s: Stage1, a: Access, tables: u64, turn: Turn, x: u64) -> Ending
+pub(crate) fn at_entry(p: Prepared1, a: Access, tables: u64, turn: Turn, x: u64) -> Ending
     requires { ⌜ listedSize (a .size) ≡ true ⌝ }
-    ensures { λ r. ⌜ r ≡ pick (Ends.isLeaf turn) (Calls.ending1 s a tables x) (Ends.over turn) ⌝ }
+    ensures { λ r. ⌜ r ≡ pick (Ends.isLeaf turn) (Calls.ending1 (Calls.stage1Of p) a tables x) (Ends.over turn) ⌝ }
 {
     if end::is_leaf(turn) {
-        check1(s, a, tables, x)
+        check1(p, a, tables, x)
     } else {
         end::over(turn)
     }

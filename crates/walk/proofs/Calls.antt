@@ -25,6 +25,7 @@ use Rattle.walk.specs.declared.table.Table.{Table}
 use Rattle.walk.specs.declared.table.Root.{Root}
 use Rattle.walk.specs.declared.table.Root.the-variants.{Unusable, Usable}
 use Rattle.walk.specs.declared.check.Output.{Output}
+use Rattle.walk.specs.declared.end.Ending.{Ending}
 use Rattle.walk.specs.declared.stage2.Stage2.{Stage2}
 use Rattle.walk.proofs.Ends.{outcome-stopped, fault-stops, fault-stop}
 
@@ -46,8 +47,9 @@ module _ (m : Request → Read) (s : Stage2) (a : Access) (w : Bool) (ipa : ℕ)
   ran-outside decoded e = by-root (pick-true _ _ _ e) (faults decoded F.Translation 0)
 
   module _ (inside : beyond ipa (s .inputsize) ≡ false) where
-    pub ran-unusable : (decoded : ℕ → Decoded) (kind : FaultKind) (level : ℕ) → s .root ≡ Unusable kind level → Ran m (translate2 s a w ipa) log count (ended (Two ipa w) decoded (stoppedBy (faulted kind) level count)) count log
-    ran-unusable decoded kind level r = by-root (pick-false (beyond ipa (s .inputsize)) _ (s .root) inside ∙ r) (faults decoded kind level)
+    pub ran-unusable : (decoded : ℕ → Decoded) (kind : FaultKind) (level : ℕ) {e : Ending} → s .root ≡ Unusable kind level → e ≡ faulted kind →
+        Ran m (translate2 s a w ipa) log count (ended (Two ipa w) decoded (stoppedBy e level count)) count log
+    ran-unusable decoded kind level r q = rw q (by-root (pick-false (beyond ipa (s .inputsize)) _ (s .root) inside ∙ r) (faults decoded kind level))
 
     pub ran-usable : {t : Table} {o : Outcome Stop Output} {end : ℕ} {l : List ℕ} → s .root ≡ Usable t →
         Ran m (bind (walkFrom done (Two ipa w) ipa (Usable t)) (λ l. give (check2 s a w ipa l))) log count o end l → Ran m (translate2 s a w ipa) log count o end l

@@ -25,7 +25,8 @@ use Rattle.walk.specs.Checks.{unless, settled, permitted, give}
 use Rattle.descriptor.specs.declared.entry.Turn.{Turn}
 use Rattle.descriptor.specs.declared.entry.Turn.the-variants as T
 use Rattle.walk.specs.Ends.{passed, faulted, stoppedBy, stopBy, outcome, ended, leadsDown, isLeaf, over, tested, verdict}
-use Rattle.walk.specs.Calls.{checked, Fit, Within, Starts}
+use Rattle.walk.specs.declared.table.Table.{Table}
+use Rattle.walk.specs.Calls.{checked, Fit, Within, Starts, rootBy, rootOf}
 use Rattle.walk.specs.declared.stop.Stage.{Stage}
 use Rattle.walk.specs.declared.table.Leaf.{Leaf}
 use Rattle.walk.specs.declared.table.Root.{Root}
@@ -97,6 +98,19 @@ starts-usable p (Usable t) w e = (rw (w .1), w .2)
 pub starts-unusable : (p : Start) (r : Root) → Starts p r → passed (p .ending) ≡ false → (kind : FaultKind) × (r ≡ Unusable kind (p .level)) × (p .ending ≡ faulted kind)
 starts-unusable p (Unusable kind level) w e = (kind, rw (w .1), w .0)
 starts-unusable p (Usable t) w e = absurd (true≢false (sym (passes (w .0)) ∙ e))
+
+faulted-root : (kind : FaultKind) (level : ℕ) (t : Table) → rootBy (faulted kind) level t ≡ Unusable kind level
+unfolding faulted rootBy
+faulted-root F.Translation level t = refl
+faulted-root F.AddressSize level t = refl
+faulted-root F.AccessFlag level t = refl
+faulted-root F.Permission level t = refl
+
+-- a start for a root stands for it
+pub starts-root : (p : Start) (r : Root) → Starts p r → rootOf p ≡ r
+unfolding rootBy
+starts-root p (Unusable kind level) w = rw (w .0, w .1) (faulted-root kind level (p .table))
+starts-root p (Usable t) w = rw (w .0, w .1)
 
 -- ---- the checks after a walk
 

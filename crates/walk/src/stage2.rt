@@ -26,9 +26,9 @@ ghost use Rattle.walk.specs.Stage2 as Definitions;
 ghost use Rattle.walk.specs.declared.stop.Stage.the-variants as Stages;
 ghost use Rattle.walk.specs.declared.table.Root.the-variants as Roots;
 ghost use Rattle.walk.specs.Ends as Ends;
-ghost use Rattle.walk.specs.Calls.{SmallRoot, Sound2, Fit};
+ghost use Rattle.walk.specs.Calls.{Sound2, Fit, stage2Of};
 
-// What registers say of stage 2.
+// What registers say of stage 2, for the definitions.
 pub struct Stage2 {
     pub on: bool,
     // In bits.
@@ -40,25 +40,16 @@ pub struct Stage2 {
     pub ptw: bool,
 }
 
-// Stage 2 with what its walks go by, worked out once for all addresses.
+// The same in the words that its walks go by, worked out once for all addresses.
 pub struct Prepared2 {
-    pub stage: Stage2,
+    pub on: bool,
+    pub inputsize: u64,
     // An IPA from here on is beyond the input size.
     pub limit: u64,
     pub start: Start,
-}
-
-pub fn prepare2(s: Stage2) -> Prepared2
-    requires { ⌜ SmallRoot (s .root) ⌝ }
-    ensures { λ r. ⌜ (r .stage ≡ s) × Sound2 r ⌝ }
-{
-    let root = s.root;
-    let inputsize = s.inputsize;
-    Prepared2 {
-        stage: s,
-        limit: turn::limit(inputsize),
-        start: start::start_of(root),
-    }
+    pub cd: bool,
+    pub id: bool,
+    pub ptw: bool,
 }
 
 // A fetch from Device memory is refused, and on-walk any access to it with PTW set.
@@ -69,11 +60,11 @@ fn refused2(ptw: bool, a: Access, onwalk: bool) -> bool
 }
 
 // The checks after the walk, by the leaf's descriptor. Alignment is never tested on-walk.
-fn check2(s: Stage2, a: Access, onwalk: bool, x: u64) -> Ending
+fn check2(p: Prepared2, a: Access, onwalk: bool, x: u64) -> Ending
     requires { ⌜ listedSize (a .size) ≡ true ⌝ }
-    ensures { λ r. ⌜ r ≡ Ends.verdict (λ d. not onwalk && misaligned a d) (λ d. Definitions.denied2 s a onwalk d x) (classOf (stage2Attributes (Definitions.uncached2 s a onwalk) x)) ⌝ }
+    ensures { λ r. ⌜ r ≡ Ends.verdict (λ d. not onwalk && misaligned a d) (λ d. Definitions.denied2 (stage2Of p) a onwalk d x) (classOf (stage2Attributes (Definitions.uncached2 (stage2Of p) a onwalk) x)) ⌝ }
 {
-    let ptw = s.ptw;
+    let ptw = p.ptw;
     let class = attributes::stage2_class(x);
     match class {
         MemoryClass::Unsettled => Ending::Unsettled,
@@ -108,9 +99,8 @@ fn walk2(
     count: usize,
 ) -> End
     requires { ⌜ Fit (p .start) × (listedSize (a .size) ≡ true) × (base + length (now bytes) ≤ 2 ^ 64) × (count + p .start .table .levels ≤ length (now log)) ⌝ }
-    ensures { λ r. ⌜ Ran (captured base (now (bytes .entry))) (bind (walkFrom done (Stages.Two ipa onwalk) ipa (Roots.Usable (p .start .table))) (λ l. give (Definitions.check2 (p .stage) a onwalk ipa l))) (now (log .entry)) count (Ends.ended (Stages.Two ipa onwalk) (stage2Attributes (Definitions.uncached2 (p .stage) a onwalk)) r) (r .count) (now (log .exit)) × (r .count ≤ count + p .start .table .levels) ⌝ }
+    ensures { λ r. ⌜ Ran (captured base (now (bytes .entry))) (bind (walkFrom done (Stages.Two ipa onwalk) ipa (Roots.Usable (p .start .table))) (λ l. give (Definitions.check2 (stage2Of p) a onwalk ipa l))) (now (log .entry)) count (Ends.ended (Stages.Two ipa onwalk) (stage2Attributes (Definitions.uncached2 (stage2Of p) a onwalk)) r) (r .count) (now (log .exit)) × (r .count ≤ count + p .start .table .levels) ⌝ }
 {
-    let s = p.stage;
     let start = p.start;
     let masks = start.masks;
     let table = start.table;
@@ -142,7 +132,7 @@ fn walk2(
                     at = turn::next_entry(g, masks, x, ipa, shift);
                 } else if end::is_leaf(turn) {
                     return End {
-                        ending: check2(s, a, onwalk, x),
+                        ending: check2(p, a, onwalk, x),
                         address: entry::output_address(x, shift, ipa),
                         word: x,
                         level: 3 - left,
@@ -168,7 +158,7 @@ pub fn translate2(
     count: usize,
 ) -> End
     requires { ⌜ Sound2 p × (listedSize (a .size) ≡ true) × (base + length (now bytes) ≤ 2 ^ 64) × (count + 4 ≤ length (now log)) ⌝ }
-    ensures { λ r. ⌜ Ran (captured base (now (bytes .entry))) (Definitions.translate2 (p .stage) a onwalk ipa) (now (log .entry)) count (Ends.ended (Stages.Two ipa onwalk) (stage2Attributes (Definitions.uncached2 (p .stage) a onwalk)) r) (r .count) (now (log .exit)) × (r .count ≤ count + 4) ⌝ }
+    ensures { λ r. ⌜ Ran (captured base (now (bytes .entry))) (Definitions.translate2 (stage2Of p) a onwalk ipa) (now (log .entry)) count (Ends.ended (Stages.Two ipa onwalk) (stage2Attributes (Definitions.uncached2 (stage2Of p) a onwalk)) r) (r .count) (now (log .exit)) × (r .count ≤ count + 4) ⌝ }
 {
     let limit = p.limit;
     let start = p.start;

@@ -1,7 +1,5 @@
 // Roots in the words that a walk goes by, worked out once for all addresses.
-use crate::end;
 use crate::end::Ending;
-use crate::table::Root;
 use crate::table::Table;
 use descriptor::entry::Geometry;
 use descriptor::entry::Masks;
@@ -9,7 +7,8 @@ use descriptor::turn;
 ghost use mathlib.Core.Path.{_≡_};
 ghost use Prim.Native.Nat.{_+_, _*_, _≤_, _<_, _^_};
 ghost use Rattle.bits.specs.Bits.{field};
-ghost use Rattle.walk.specs.Calls.{SmallRoot, Within, Starts};
+ghost use Rattle.walk.specs.declared.table.Root.the-variants as Roots;
+ghost use Rattle.walk.specs.Calls.{Small, Within, Starts};
 
 pub struct Start {
     // Passed, or the fault that every walk from here meets, at a level.
@@ -21,7 +20,8 @@ pub struct Start {
     pub masks: Masks,
 }
 
-// A start whose every walk meets a fault.
+// A start whose every walk meets a fault. Nothing goes by its sizes; they are the 4KB granule's, so that a size that all starts share is
+// none that a loop must keep.
 pub fn nowhere(ending: Ending, level: u64) -> Start
     ensures { λ r. ⌜ (r .ending ≡ ending) × (r .level ≡ level) × Within r ⌝ }
 {
@@ -30,12 +30,12 @@ pub fn nowhere(ending: Ending, level: u64) -> Start
         level,
         table: Table {
             geometry: Geometry {
-                grainsize: 0,
-                stride: 0,
+                grainsize: 12,
+                stride: 9,
                 inputsize: 0,
                 outputsize: 0,
-                block: 0,
-                contiguous: 0,
+                block: 2,
+                contiguous: 34,
             },
             levels: 1,
             bits: 0,
@@ -45,31 +45,27 @@ pub fn nowhere(ending: Ending, level: u64) -> Start
         masks: Masks {
             limit: 0,
             unsettled: false,
-            index: 0,
-            table: 0,
+            index: 0x1ff,
+            table: 0xffff_ffff_f000,
         },
     }
 }
 
-pub fn start_of(root: Root) -> Start
-    requires { ⌜ SmallRoot root ⌝ }
-    ensures { λ r. ⌜ Starts r root ⌝ }
+// A start at a table.
+pub fn start_at(table: Table) -> Start
+    requires { ⌜ Small table ⌝ }
+    ensures { λ r. ⌜ Starts r (Roots.Usable table) ⌝ }
 {
-    match root {
-        Root::Unusable { kind, level } => nowhere(end::faulted(kind), level),
-        Root::Usable(table) => {
-            let g = table.geometry;
-            let levels = table.levels;
-            let grainsize = g.grainsize;
-            let stride = g.stride;
-            Start {
-                ending: Ending::Passed,
-                level: 0,
-                table,
-                shift: grainsize + stride * (levels - 1),
-                masks: turn::masks(g),
-            }
-        }
+    let g = table.geometry;
+    let levels = table.levels;
+    let grainsize = g.grainsize;
+    let stride = g.stride;
+    Start {
+        ending: Ending::Passed,
+        level: 0,
+        table,
+        shift: grainsize + stride * (levels - 1),
+        masks: turn::masks(g),
     }
 }
 

@@ -11,7 +11,7 @@ pub struct Table {
     pub base: u64,
 }
 
-// Where a walk starts, or the fault that every walk from here meets before it reads.
+// Where a walk starts, or the fault that every walk from here meets before it reads. Code has it in words, as a Start.
 pub enum Root {
     Unusable { kind: FaultKind, level: u64 },
     Usable(Table),

@@ -1,19 +1,23 @@
 -- `each` meets its contract: what is stored from an address on is what is stored from the first.
 -- Assumes nothing.
 use borrow.Author.Needs.{needs, scaled-fits}
-use mathlib.Core.Path.{sym, _∙_}
-use mathlib.Core.List.{map-map}
-use Prim.Native.Nat.{ℕ, _-_}
+use mathlib.Core.Path.{_≡_, _∙_}
+use Prim.Native.Nat.{ℕ, _-_, _<_}
 use native.Mathlib.Omega.{arith}
-use lib.ListN.{length}
+use lib.ListN.{length, getD}
 use Rattle.access.specs.declared.Access.{Access}
 use Rattle.capture.specs.Capture.{captured}
-use Rattle.stages.specs.Calls.{arrived}
-use Rattle.regime.proofs.Ready.{walkable}
+use Rattle.walk.specs.Calls.{stage2Of}
+use Rattle.stages.specs.Stages.{access}
+use Rattle.stages.specs.Calls.{arrived, stage1Of}
+use Rattle.stages.specs.declared.both.Arrival.{Arrival}
+use Rattle.regime.specs.Roots.{stage1, stage2}
+use Rattle.regime.proofs.Narrowed.{access-narrowed}
 use Rattle.answers.specs.Answers.{number}
 use Rattle.answers.specs.Entries.{answerOf, outputOf}
 use Rattle.answers.proofs.Entries.{ran-number, ran-output}
 use Rattle.accesses.proofs.Filling.{Filling, filling-start, filling-next, filling-done}
+use Rattle.accesses.proofs.Lists.{answers-same}
 use Rattle.accesses.proofs.Runs.{Runs, runs-start, runs-next, runs-done}
 use Rattle.accesses.proofs.each.Statement.{statement}
 use Rattle.accesses.proofs.each.Tie as tie
@@ -23,27 +27,22 @@ abbrev to : (kind el size address : ℕ) → Access
 to kind el size address = record { address = address; kind = kind; el = el; size = size }
 
 abbrev Inv-loop : tie.InvT-loop
-Inv-loop bytes base kind el size addresses outputs₀ numbers₀ log₀ s1 s2 p q last₀ i₀ outputs numbers log last i =
-    Filling (λ x. outputOf (answerOf (captured base bytes) (p .stage) (q .stage) (to kind el size x))) addresses outputs₀ outputs i
-    × Filling (λ x. number (answerOf (captured base bytes) (p .stage) (q .stage) (to kind el size x))) addresses numbers₀ numbers i
-    × Runs (captured base bytes) (p .stage) (q .stage) (to kind el size) addresses log₀ log last i
+Inv-loop bytes base kind el size addresses outputs₀ numbers₀ log₀ p q last₀ i₀ outputs numbers log last i =
+    Filling (λ x. outputOf (answerOf (captured base bytes) (stage1Of p) (stage2Of q) (to kind el size x))) addresses outputs₀ outputs i
+    × Filling (λ x. number (answerOf (captured base bytes) (stage1Of p) (stage2Of q) (to kind el size x))) addresses numbers₀ numbers i
+    × Runs (captured base bytes) (stage1Of p) (stage2Of q) (to kind el size) addresses log₀ log last i
 
 abbrev μ-loop : tie.MeasureT-loop
-μ-loop bytes base kind el size addresses outputs₀ numbers₀ log₀ s1 s2 p q last₀ i₀ outputs numbers log last i = length addresses - i
+μ-loop bytes base kind el size addresses outputs₀ numbers₀ log₀ p q last₀ i₀ outputs numbers log last i = length addresses - i
 
-prepare1-requires : tie.Need-prepare1-requires Inv-loop μ-loop
-prepare1-requires c κs =
-    let w = walkable _ _ (c .before .before .before .before .before .before .before .pre .0) in
-    rw (c .before .stage1 .ensures) ((w .lower, w .upper))
-
-prepare2-requires : tie.Need-prepare2-requires Inv-loop μ-loop
-prepare2-requires c κs = rw (c .before .stage2 .ensures) (walkable _ _ (c .before .before .before .before .before .before .before .before .pre .0) .second)
+prepared1-requires : tie.Need-prepared1-requires Inv-loop μ-loop
+prepared1-requires c κs = c .before .before .before .before .before .before .before .pre .0
 
 access-requires : tie.Need-access-requires Inv-loop μ-loop
 access-requires c κs =
     let l = c .before .before .before in
     let p = l .before .before .before .before .before .before .before .before .before .before .before .pre in
-    (l .before .before .before .prepare1 .ensures .1, l .before .before .prepare2 .ensures .1, p .1, p .2, omega (arith, l .loop .inv .2 .same, p .3))
+    (l .before .before .before .prepared1 .ensures .1, l .before .before .prepared2 .ensures .1, p .1, p .2, omega (arith, l .loop .inv .2 .same, p .3))
 
 slice-write-outputs : tie.Need-slice-write-outputs Inv-loop μ-loop
 slice-write-outputs c =
@@ -65,20 +64,40 @@ loop-again c =
       runs-next _ _ _ _ _ _ (l .loop .inv .2) (omega (arith, less)) ran,
     )
 
+-- the access to each address of the list is that by the stages with what is wanted of them
+same : (c : tie.After-loop Inv-loop μ-loop) →
+    let z = c .before .before .before .before .before .before .before .before .before .before .before .before .args in
+    (i : ℕ) → i < length (z .addresses .now) →
+    (let a = to (z .kind) (z .el) (z .size) (getD (z .addresses .now) i 0) in
+    access (stage1Of (c .before .before .before .before .prepared1 .result)) (stage2Of (c .before .before .before .prepared2 .result)) a ≡ access (stage1 (z .r) (z .g)) (stage2 (z .r)) a)
+same c i less =
+    let q = c .before .before .before in
+    let w = q .before .before in
+    let k = w .before .before .before .before .before in
+    rw (q .before .prepared1 .ensures .0, q .prepared2 .ensures .0)
+    (access-narrowed _ _ (k .before .before .pre .0) _ _ _ (omega (arith, k .shared-slice-known2 .given i)) ((w .wanted2 .ensures i less, w .before .wanted .ensures i less)))
+
+-- what is left out of the stages shows in no end
+told-alike : (c : tie.After-loop Inv-loop μ-loop) (a : Access) (last : Arrival) →
+    let z = c .before .before .before .before .before .before .before .before .before .before .before .before .args in
+    arrived (stage1Of (c .before .before .before .before .prepared1 .result)) (stage2Of (c .before .before .before .prepared2 .result)) a last ≡ arrived (stage1 (z .r) (z .g)) (stage2 (z .r)) a last
+unfolding arrived stage1 stage2
+told-alike c a last = rw (c .before .before .before .before .prepared1 .ensures .0, c .before .before .before .prepared2 .ensures .0)
+
 returns : tie.Need-returns Inv-loop μ-loop
-unfolding arrived
 returns c =
-    let l = c .before .before .before in
-    let p = l .before .before .before .before .before .before .before .before .before .before .before .pre in
-    let over = c .before .before .loop-test .left in
-    let s1 = l .before .before .before .prepare1 .ensures .0 in
-    let s2 = l .before .before .prepare2 .ensures .0 in
-    rw (sym (s1 ∙ l .before .before .before .before .before .stage1 .ensures), sym (s2 ∙ l .before .before .before .before .stage2 .ensures))
-    (record {
-      placed = rw map-map (filling-done _ _ _ _ _ over (p .4) (l .loop .inv .0));
-      numbered = rw map-map (filling-done _ _ _ _ _ over (p .5) (l .loop .inv .1));
-      single = λ x e. rw (c .reached-by .ensures, sym s1, sym s2) (runs-done _ _ _ _ _ _ (l .loop .inv .2) over x e);
-    })
+    let l = c .before in
+    let k = l .before .before .before .before .before .before .before .before .before .before .before in
+    let z = k .args in
+    let p = k .pre in
+    let m = captured (z .base) (z .bytes .now) in
+    let at = to (z .kind) (z .el) (z .size) in
+    let over = c .loop-test .left in
+    record {
+      placed = filling-done _ _ _ _ _ over (p .4) (l .loop .inv .0) ∙ answers-same m _ _ _ _ at outputOf (z .addresses .now) (same c);
+      numbered = filling-done _ _ _ _ _ over (p .5) (l .loop .inv .1) ∙ answers-same m _ _ _ _ at number (z .addresses .now) (same c);
+      single = λ x e. rw (← rw e at (same c 0 (rw e (omega arith))), ← told-alike c _ _) (runs-done _ _ _ _ _ _ (l .loop .inv .2) over x e);
+    }
 
 pub each-spec : {M : Type 1} → statement M
 each-spec =
@@ -88,8 +107,8 @@ each-spec =
     μ-loop
     (λ c κs. search needs)
     (λ c κs. search needs)
-    prepare1-requires
-    prepare2-requires
+    prepared1-requires
+    (λ c κs. search needs)
     (λ c κs. search needs)
     (λ c. (filling-start _ _ _, filling-start _ _ _, runs-start _ _ _ _ _ _ _))
     (λ c. scaled-fits _ _ _ (c .loop-test .taken) (c .before .before .before .before .before .before .before .before .before .before .before .before .good .1 .1 .1 .1 .1 .1 .1 .0 .1))
@@ -104,8 +123,7 @@ each-spec =
     (λ c. record { fits = omega (arith, c .before .before .before .before .before .before .before .before .loop-test .taken, c .before .before .before .before .before .before .before .before .before .before .before .before .before .before .before .before .before .before .before .before .good .1 .1 .1 .1 .1 .1 .1 .0 .0) })
     (λ c. omega (arith, c .before .before .before .before .before .before .before .before .loop-test .taken))
     loop-again
-    (λ c κs. search needs)
-    (λ c. c .before .before .before .loop .inv .0 .same)
-    (λ c. c .before .before .before .loop .inv .1 .same)
-    (λ c. c .before .before .before .loop .inv .2 .same)
+    (λ c. c .before .loop .inv .0 .same)
+    (λ c. c .before .loop .inv .1 .same)
+    (λ c. c .before .loop .inv .2 .same)
     returns)

@@ -2,8 +2,15 @@
 -- Assumes nothing.
 use borrow.Author.Needs.{needs}
 use borrow.Author.Tests.{lt-ltb}
-use mathlib.Core.Path.{refl, sym, _∙_}
+use mathlib.Core.Path.{_≡_, refl, sym, ap, _∙_}
 use lib.ListN.{length}
+use Rattle.access.specs.declared.Access.{Access}
+use Rattle.walk.specs.declared.stage2.Stage2.{Stage2}
+use Rattle.stages.specs.Calls.{arrived, memory1, memory2, memoryOf}
+use Rattle.stages.specs.declared.stage1.Stage1.{Stage1}
+use Rattle.stages.specs.declared.both.Arrival.{Arrival}
+use Rattle.stages.specs.declared.both.Memory.{Memory}
+use Rattle.answers.specs.Answers.{answer}
 use Rattle.answers.proofs.Refusals.{accepted-settings, accepted-capture, accepted-size}
 use Rattle.answers.proofs.Counts.{counts}
 use Rattle.answers.proofs.Framing.{framing}
@@ -35,12 +42,19 @@ returns-2 c =
       (counts _ _ _ _ _ _, λ other. framing _ _ _ _ _ _ _),
     )
 
+-- attributes go by nothing else of the stages
+remembered : (s1 : Stage1) (s2 : Stage2) (a : Access) (r : Arrival) (m : Memory) → m ≡ memoryOf s1 s2 → arrived (memory1 m) (memory2 m) a r ≡ arrived s1 s2 a r
+unfolding arrived
+remembered s1 s2 a r m e = ap (λ x. arrived (memory1 x) (memory2 x) a r) e
+
 returns-3 : tie.Need-returns-3
 returns-3 c =
-    let ran = c .before .before .before .before .before in
+    let b = c .before in
+    let ran = b .before .before .before .before .before .before .before in
     let told = ran .before .before .before .before .before in
-    let v = told .before .before in (
-      tells-ran _ _ _ _ _ _ (v .before .if1 .left) _ _ _ _ (sym (v .shared-verdict .ensures) ∙ told .enum-told .given .1) (ran .each .ensures .single _ refl) (c .answered .ensures),
+    let v = told .before .before in
+    let reached = b .reached-by .ensures ∙ remembered _ _ _ _ _ (b .before .memory .ensures) in (
+      tells-ran _ _ _ _ _ _ (v .before .if1 .left) _ _ _ _ (sym (v .shared-verdict .ensures) ∙ told .enum-told .given .1) (ran .each .ensures .single _ refl) (c .answered .ensures ∙ ap (answer _) reached),
       (counts _ _ _ _ _ _, λ other. framing _ _ _ _ _ _ _),
     )
 
@@ -56,6 +70,8 @@ translate-spec =
     (λ c. search needs)
     (λ c. search needs)
     each-requires
+    (λ c κs. search needs)
+    (λ c κs. search needs)
     (λ c κs. search needs)
     returns-2
     (λ c. search needs)

@@ -13,27 +13,28 @@ use Rattle.reads.proofs.Ran.{ran-length}
 use Rattle.descriptor.proofs.Turns.{down-more}
 use Rattle.capture.specs.Capture.{captured}
 use Rattle.walk.specs.Ends.{passed}
-use Rattle.walk.specs.Calls.{Fit}
+use Rattle.walk.specs.Calls.{Fit, stage2Of}
 use Rattle.walk.proofs.Turns.{is-down}
+use Rattle.stages.specs.Calls.{stage1Of}
 use Rattle.stages.proofs.Calls.{Going, going-few, going-same, going-ends, going-stops, going-on, going-entry, going-absent, going-down, going-leaf, going-over}
 use Rattle.stages.proofs.Openings.{opens-fit, opens-within, opens-going}
 use Rattle.stages.proofs.both.walk1.Statement.{statement}
 use Rattle.stages.proofs.both.walk1.Tie as tie
 
 abbrev Inv-loop : tie.InvT-loop
-Inv-loop bytes base q a log₀ s input masks g stride levels walking₀ left₀ shift₀ ipa₀ tables₀ level1₀ word1₀ k₀ log walking left shift ipa tables level1 word1 k =
-    Going (captured base bytes) s (q .stage) a g log₀ log walking left shift ipa tables level1 word1 k
+Inv-loop bytes base p q a log₀ input masks g stride levels walking₀ left₀ shift₀ ipa₀ tables₀ level1₀ word1₀ k₀ log walking left shift ipa tables level1 word1 k =
+    Going (captured base bytes) (stage1Of p) (stage2Of q) a g log₀ log walking left shift ipa tables level1 word1 k
 
 -- the levels that are left, while there is a walk
 abbrev μ-loop : tie.MeasureT-loop
-μ-loop bytes base q a log₀ s input masks g stride levels walking₀ left₀ shift₀ ipa₀ tables₀ level1₀ word1₀ k₀ log walking left shift ipa tables level1 word1 k = pick walking (suc left) 0
+μ-loop bytes base p q a log₀ input masks g stride levels walking₀ left₀ shift₀ ipa₀ tables₀ level1₀ word1₀ k₀ log walking left shift ipa tables level1 word1 k = pick walking (suc left) 0
 
 loop-holds : tie.Need-loop-holds Inv-loop μ-loop
-loop-holds c = let x = c .before .before .before .before .before .before .before in opens-going _ _ _ _ _ _ (x .pre .4) (x .pre .5)
+loop-holds c = let x = c .before .before .before .before .before .before in opens-going _ _ _ _ _ _ (x .pre .4) (x .pre .5)
 
 second-requires : tie.Need-second-requires Inv-loop μ-loop
 second-requires c κs =
-    let p = c .before .before .before .before .before .before .before .before .before .pre in
+    let p = c .before .before .before .before .before .before .before .before .pre in
     (p .0, p .1, p .2, omega (arith, going-few (c .before .loop .inv), going-same (c .before .loop .inv), p .3))
 
 -- ---- in a turn that walks
@@ -43,9 +44,9 @@ went : (c : tie.Then2 Inv-loop μ-loop) → passed (c .before .before .before .b
 went c = sym (c .before .before .passed .ensures) ∙ c .before .if1 .taken
 
 -- the walk starts at a root that is of use
-fit : (c : tie.Then2 Inv-loop μ-loop) → Fit (c .before .before .before .before .before .before .before .before .before .before .before .before .before .before .before .args .o .start)
+fit : (c : tie.Then2 Inv-loop μ-loop) → Fit (c .before .before .before .before .before .before .before .before .before .before .before .before .before .before .args .o .start)
 fit c =
-    let x = c .before .before .before .before .before .before .before .before .before .before .before .before .before .before .before in
+    let x = c .before .before .before .before .before .before .before .before .before .before .before .before .before .before in
     opens-fit _ _ _ (x .pre .4) (x .pre .5) (going-on (c .before .before .before .before .before .before .before .loop .inv) (c .if2 .taken)) .1
 
 -- at most 19 reads so far
@@ -53,7 +54,7 @@ few : (c : tie.Then2 Inv-loop μ-loop) → c .before .before .before .before .be
 few c = omega (arith, c .before .before .before .before .before .second .ensures .1, going-entry (c .before .before .before .before .before .before .before .loop .inv) (c .if2 .taken) .3)
 
 -- the log is as long as it was
-long : (c : tie.Then2 Inv-loop μ-loop) → length (c .before .before .before .before .before .second .last .1 .1 .1 .1 .1 .1 .0) ≡ length (c .before .before .before .before .before .before .before .before .before .before .before .before .before .before .before .args .log .now)
+long : (c : tie.Then2 Inv-loop μ-loop) → length (c .before .before .before .before .before .second .last .1 .1 .1 .1 .1 .1 .0) ≡ length (c .before .before .before .before .before .before .before .before .before .before .before .before .before .before .args .log .now)
 long c = ran-length (c .before .before .before .before .before .second .ensures .0 .placed (c .if2 .taken)) ∙ going-same (c .before .before .before .before .before .before .before .loop .inv)
 
 turn-requires : tie.Need-turn-requires Inv-loop μ-loop
@@ -76,7 +77,7 @@ more c = down-more _ _ _ (sym (c .before .before .turn .ensures) ∙ is-down _ (
 sub-shift : tie.Need-sub-shift Inv-loop μ-loop
 sub-shift c =
     let t = c .before .before .before .before .before .before .before in
-    let once : t .before .before .before .before .before .before .before .before .before .before .before .before .before .before .before .args .o .start .table .geometry .stride * 1 ≤ t .before .before .before .before .before .before .before .before .before .before .before .before .before .before .before .args .o .start .table .geometry .stride * t .before .before .before .before .before .before .before .loop .left = mul-le-mul (le-refl _) (more c) in
+    let once : t .before .before .before .before .before .before .before .before .before .before .before .before .before .before .args .o .start .table .geometry .stride * 1 ≤ t .before .before .before .before .before .before .before .before .before .before .before .before .before .before .args .o .start .table .geometry .stride * t .before .before .before .before .before .before .before .loop .left = mul-le-mul (le-refl _) (more c) in
     omega (arith, going-entry (t .before .before .before .before .before .before .before .loop .inv) (t .if2 .taken) .1)
 
 next-entry-requires : tie.Need-next-entry-requires Inv-loop μ-loop
@@ -146,11 +147,11 @@ walk1-spec =
     (tie.spec
     Inv-loop
     μ-loop
-    (λ c. let x = c .before .before .before .before .before .before .before in opens-within _ _ _ (x .pre .4) .some)
+    (λ c. let x = c .before .before .before .before .before .before in opens-within _ _ _ (x .pre .4) .some)
     loop-holds
     second-requires
     (λ c κs. search needs)
-    (λ c κs. c .before .before .before .before .before .before .before .before .before .before .before .before .before .before .before .pre .2)
+    (λ c κs. c .before .before .before .before .before .before .before .before .before .before .before .before .before .before .pre .2)
     (λ c. search needs)
     (λ c. let t = c .before .before .before in going-entry (t .before .before .before .before .before .before .before .loop .inv) (t .if2 .taken) .0)
     (λ c κs. search needs)
@@ -158,7 +159,7 @@ walk1-spec =
     returns
     (λ c. search needs)
     (λ c. record { fits = omega (arith, few (c .before .before .before .before)) })
-    (λ c. let t = c .before .before .before .before in omega (arith, few t, long t, t .before .before .before .before .before .before .before .before .before .before .before .before .before .before .before .pre .3))
+    (λ c. let t = c .before .before .before .before in omega (arith, few t, long t, t .before .before .before .before .before .before .before .before .before .before .before .before .before .before .pre .3))
     (λ c. record { fits = omega (arith, few (c .before .before .before .before)) })
     turn-requires
     (λ c κs. search needs)
@@ -167,7 +168,7 @@ walk1-spec =
     next-entry-requires
     loop-less
     loop-again
-    (λ c κs. c .before .before .before .before .before .before .before .before .before .before .before .before .before .before .before .before .before .before .before .before .before .before .pre .1)
+    (λ c κs. c .before .before .before .before .before .before .before .before .before .before .before .before .before .before .before .before .before .before .before .before .before .pre .1)
     (λ c κs. search needs)
     (λ c κs. let t = c .before .before .before .before .before .before .before .before .before .before in going-entry (t .before .before .before .before .before .before .before .loop .inv) (t .if2 .taken) .2)
     (λ c. let t = c .before .before .before .before .before .before .before .before .before .before .before in going-entry (t .before .before .before .before .before .before .before .loop .inv) (t .if2 .taken) .0)

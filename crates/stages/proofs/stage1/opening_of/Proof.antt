@@ -4,7 +4,7 @@ use borrow.Author.Needs.{needs}
 use mathlib.Core.Path.{refl}
 use Rattle.walk.proofs.Ends.{starts-within}
 use Rattle.stages.specs.Stage1.{root1At}
-use Rattle.stages.specs.Calls.{walks, passes}
+use Rattle.stages.specs.Calls.{walks, passes, stage1Of}
 use Rattle.stages.proofs.stage1.opening_of.Statement.{statement}
 use Rattle.stages.proofs.stage1.opening_of.Tie as tie
 
@@ -12,10 +12,10 @@ pub opening-of-spec : {M : Type 1} → statement M
 opening-of-spec =
     tie.close
     (tie.spec
-    (λ c κs. (c .before .before .pre .0, c .if1 .taken))
+    (λ c κs. (c .before .pre .0, c .if1 .taken))
     (λ c κs.
-    let z = c .before .before .before .before .args in
-    let w = starts-within (c .before .start-at .result) (root1At (z .p .stage) (z .a .address)) (c .before .start-at .ensures) in
+    let z = c .before .before .before .args in
+    let w = starts-within (c .before .start-at .result) (root1At (stage1Of (z .p)) (z .a .address)) (c .before .start-at .ensures) in
     (w .shift, w .bits, w .base))
     (λ c κs. search needs)
     (λ c κs. search needs)

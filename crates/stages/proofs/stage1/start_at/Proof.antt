@@ -5,18 +5,19 @@ use mathlib.Core.Path.{_≡_, sym, ap, _∙_}
 use Rattle.walk.specs.Ends.{faulted}
 use Rattle.stages.specs.Stage1.{root1At}
 use Rattle.stages.specs.Ranges.{rangeAt, rootAt}
+use Rattle.stages.specs.Calls.{stage1Of}
 use Rattle.stages.proofs.Ranges.{root1-range}
 use Rattle.stages.proofs.stage1.start_at.Statement.{statement}
 use Rattle.stages.proofs.stage1.start_at.Tie as tie
 
 -- the range's root is the address's
-root : (c : tie.After-range-at) → let z = c .before .before .before .before .args in root1At (z .p .stage) (z .address) ≡ rootAt (z .p .stage) (c .range-at .result)
+root : (c : tie.After-range-at) → let z = c .before .before .before .before .args in root1At (stage1Of (z .p)) (z .address) ≡ rootAt (stage1Of (z .p)) (c .range-at .result)
 root c =
     let k = c .before .before .before .before in
     let z = k .args in
     let p = k .pre in
-    root1-range (z .p .stage) (z .address) (k .fits .address .fits) (p .0 .lower (p .1) .1) (p .0 .upper (p .1) .1)
-    ∙ ap (rootAt (z .p .stage)) (ap (λ b. rangeAt b (z .address)) (sym (p .0 .bounds)) ∙ sym (c .range-at .ensures))
+    root1-range (stage1Of (z .p)) (z .address) (k .fits .address .fits) (p .0 .lower (p .1) .1) (p .0 .upper (p .1) .1)
+    ∙ ap (rootAt (stage1Of (z .p))) (ap (λ b. rangeAt b (z .address)) (sym (p .0 .bounds)) ∙ sym (c .range-at .ensures))
 
 pub start-at-spec : {M : Type 1} → statement M
 unfolding faulted rootAt

@@ -6,6 +6,7 @@ use mathlib.Core.Bool.{Bool, true, false, not, _&&_, _||_}
 use Rattle.bits.specs.Bits.{pick}
 use Rattle.walk.specs.Stage2.{uncached2}
 use Rattle.walk.specs.Ends.{tested, verdict}
+use Rattle.walk.specs.Calls.{stage2Of}
 use Rattle.walk.specs.declared.end.Ending.the-variants.{Permission, Passed}
 use Rattle.walk.proofs.stage2.check2.Statement.{statement}
 use Rattle.walk.proofs.stage2.check2.Tie as tie
@@ -23,14 +24,14 @@ unfolding pick verdict
 returns-5 c =
     let k = c .before .before .before .before in
     let z = k .before .args in
-    rw (← k .stage2-class .ensures (uncached2 (z .s) (z .a) (z .onwalk)), c .before .before .enum-told3 .given .1, ← c .before .stage2-permits2 .ensures, ← normal (z .onwalk) (c .before .stage2-permits2 .result), c .if3 .taken)
+    rw (← k .stage2-class .ensures (uncached2 (stage2Of (z .p)) (z .a) (z .onwalk)), c .before .before .enum-told3 .given .1, ← c .before .stage2-permits2 .ensures, ← normal (z .onwalk) (c .before .stage2-permits2 .result), c .if3 .taken)
 
 returns-6 : tie.Need-returns-6
 unfolding pick verdict
 returns-6 c =
     let k = c .before .before .before .before in
     let z = k .before .args in
-    rw (← k .stage2-class .ensures (uncached2 (z .s) (z .a) (z .onwalk)), c .before .before .enum-told3 .given .1, ← c .before .stage2-permits2 .ensures, ← normal (z .onwalk) (c .before .stage2-permits2 .result), c .if3 .left)
+    rw (← k .stage2-class .ensures (uncached2 (stage2Of (z .p)) (z .a) (z .onwalk)), c .before .before .enum-told3 .given .1, ← c .before .stage2-permits2 .ensures, ← normal (z .onwalk) (c .before .stage2-permits2 .result), c .if3 .left)
 
 pub check2-spec : {M : Type 1} → statement M
 unfolding pick verdict
@@ -48,20 +49,20 @@ check2-spec =
     (λ c.
     let k = c .before .before in
     let z = k .before .args in
-    rw (← k .stage2-class .ensures (uncached2 (z .s) (z .a) (z .onwalk)), c .enum-told .given .1))
+    rw (← k .stage2-class .ensures (uncached2 (stage2Of (z .p)) (z .a) (z .onwalk)), c .enum-told .given .1))
     (λ c.
     let k = c .before .before .before .before in
     let z = k .before .args in
-    rw (← k .stage2-class .ensures (uncached2 (z .s) (z .a) (z .onwalk)), c .before .before .enum-told2 .given .1, ← c .before .unaligned .ensures, c .if1 .taken))
+    rw (← k .stage2-class .ensures (uncached2 (stage2Of (z .p)) (z .a) (z .onwalk)), c .before .before .enum-told2 .given .1, ← c .before .unaligned .ensures, c .if1 .taken))
     (λ c.
     let u = c .before .before .before in
     let k = u .before .before .before .before in
     let z = k .before .args in
-    rw (← k .stage2-class .ensures (uncached2 (z .s) (z .a) (z .onwalk)), u .before .before .enum-told2 .given .1, ← u .before .unaligned .ensures, u .if1 .left, ← c .before .before .stage2-permits .ensures, ← c .before .refused2 .ensures, c .if2 .taken))
+    rw (← k .stage2-class .ensures (uncached2 (stage2Of (z .p)) (z .a) (z .onwalk)), u .before .before .enum-told2 .given .1, ← u .before .unaligned .ensures, u .if1 .left, ← c .before .before .stage2-permits .ensures, ← c .before .refused2 .ensures, c .if2 .taken))
     (λ c.
     let u = c .before .before .before in
     let k = u .before .before .before .before in
     let z = k .before .args in
-    rw (← k .stage2-class .ensures (uncached2 (z .s) (z .a) (z .onwalk)), u .before .before .enum-told2 .given .1, ← u .before .unaligned .ensures, u .if1 .left, ← c .before .before .stage2-permits .ensures, ← c .before .refused2 .ensures, c .if2 .left))
+    rw (← k .stage2-class .ensures (uncached2 (stage2Of (z .p)) (z .a) (z .onwalk)), u .before .before .enum-told2 .given .1, ← u .before .unaligned .ensures, u .if1 .left, ← c .before .before .stage2-permits .ensures, ← c .before .refused2 .ensures, c .if2 .left))
     returns-5
     returns-6)

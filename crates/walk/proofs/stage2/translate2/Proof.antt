@@ -11,20 +11,20 @@ use Rattle.attributes.specs.Attributes.{stage2Attributes}
 use Rattle.walk.specs.Stage2.{uncached2}
 use Rattle.walk.specs.Ends.{faulted}
 use Rattle.walk.specs.declared.table.Root.the-variants.{Usable}
-use Rattle.walk.specs.Calls.{Fit}
+use Rattle.walk.specs.Calls.{Fit, rootOf, stage2Of}
 use Rattle.walk.proofs.Ends.{starts-usable, starts-unusable}
 use Rattle.walk.proofs.Calls.{ran-outside, ran-unusable, ran-usable}
 use Rattle.walk.proofs.stage2.translate2.Statement.{statement}
 use Rattle.walk.proofs.stage2.translate2.Tie as tie
 
 -- the IPA lies within the input size
-inside : (c : tie.Else1) → let z = c .before .before .before .before .args in beyond (z .ipa) (z .p .stage .inputsize) ≡ false
+inside : (c : tie.Else1) → let z = c .before .before .before .before .args in beyond (z .ipa) (z .p .inputsize) ≡ false
 inside c =
     let z = c .before .before .before .before .args in
-    sym (beyond-limit (z .ipa) (z .p .stage .inputsize)) ∙ lt-leb _ _ (rw (c .before .before .before .before .pre .0 .limit) at (c .if1 .left))
+    sym (beyond-limit (z .ipa) (z .p .inputsize)) ∙ lt-leb _ _ (rw (c .before .before .before .before .pre .0 .limit) at (c .if1 .left))
 
 -- the walk from a root that is of use
-usable : (c : tie.After-walk2-arg) → let p = c .before .before .before .before .before .before .before .args .p in (p .stage .root ≡ Usable (p .start .table)) × Fit (p .start)
+usable : (c : tie.After-walk2-arg) → let p = c .before .before .before .before .before .before .before .args .p in (rootOf (p .start) ≡ Usable (p .start .table)) × Fit (p .start)
 usable c = starts-usable _ _ (c .before .before .before .before .before .before .before .pre .0 .start) (sym (c .before .before .passed .ensures) ∙ c .before .if2 .taken)
 
 returns : tie.Need-returns
@@ -33,8 +33,8 @@ returns c =
     let z = c .before .before .before .before .before .args in
     rw (c .stopped .ensures)
     ((
-      ran-outside _ (z .p .stage) (z .a) (z .onwalk) (z .ipa) (stage2Attributes (uncached2 (z .p .stage) (z .a) (z .onwalk)))
-          (sym (beyond-limit (z .ipa) (z .p .stage .inputsize)) ∙ le-leb _ _ (rw (c .before .before .before .before .before .pre .0 .limit) at (c .before .if1 .taken))),
+      ran-outside _ (stage2Of (z .p)) (z .a) (z .onwalk) (z .ipa) (stage2Attributes (uncached2 (stage2Of (z .p)) (z .a) (z .onwalk)))
+          (sym (beyond-limit (z .ipa) (z .p .inputsize)) ∙ le-leb _ _ (rw (c .before .before .before .before .before .pre .0 .limit) at (c .before .if1 .taken))),
       omega arith,
     ))
 
@@ -55,7 +55,7 @@ returns-3 : tie.Need-returns-3
 returns-3 c =
     let z = c .before .before .before .before .before .before .before .args in
     let u = starts-unusable _ _ (c .before .before .before .before .before .before .before .pre .0 .start) (sym (c .before .before .passed .ensures) ∙ c .before .if2 .left) in
-    rw (c .stopped2 .ensures, u .2) ((ran-unusable _ (z .p .stage) (z .a) (z .onwalk) (z .ipa) (inside (c .before .before .before)) (stage2Attributes (uncached2 (z .p .stage) (z .a) (z .onwalk))) (u .0) _ (u .1), omega arith))
+    rw (c .stopped2 .ensures) ((ran-unusable _ (stage2Of (z .p)) (z .a) (z .onwalk) (z .ipa) (inside (c .before .before .before)) (stage2Attributes (uncached2 (stage2Of (z .p)) (z .a) (z .onwalk))) (u .0) _ (u .1) (u .2), omega arith))
 
 pub translate2-spec : {M : Type 1} → statement M
 translate2-spec =

@@ -1,0 +1,7 @@
+-- `lower_half` meets its contract, by those of what it calls. Assumes nothing.
+use mathlib.Core.Path.{refl, _∙_}
+use Rattle.regime.proofs.lower_half.Statement.{statement}
+use Rattle.regime.proofs.lower_half.Tie as tie
+
+pub lower-half-spec : {M : Type 1} → statement M
+lower-half-spec = tie.close (tie.spec (λ c κs. tt) (λ c κs. tt) (λ c κs. tt) (λ c. (c .before .before .t0sz .ensures, rw (← c .before .epd0 .ensures) (c .left-out .ensures), refl)))
