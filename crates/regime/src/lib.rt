@@ -52,14 +52,11 @@ fn table_of(input: u64, output: u64, n: u64, register: u64) -> Table
     }
 }
 
-// The start at a base register, no bit of which may lie beyond the output size. No walk starts where a test holds.
-fn start_unless(test: bool, input: u64, output: u64, n: u64, register: u64) -> Start
-    requires { ⌜ (input ≤ 64) × (n ≤ 8) × (test ≡ false → Small (Roots.tableOf (fourK input output) n register)) ⌝ }
-    ensures { λ r. ⌜ Starts r (pick test (Unusable Translation 0) (Roots.rootOf (fourK input output) n register)) ⌝ }
+// The start at a base register, no bit of which may lie beyond the output size.
+fn start_from(input: u64, output: u64, n: u64, register: u64) -> Start
+    requires { ⌜ (input ≤ 64) × (n ≤ 8) × Small (Roots.tableOf (fourK input output) n register) ⌝ }
+    ensures { λ r. ⌜ Starts r (Roots.rootOf (fourK input output) n register) ⌝ }
 {
-    if test {
-        return start::nowhere(Ending::Translation, 0);
-    }
     if bits::beyond(register, output) {
         return start::nowhere(Ending::AddressSize, 0);
     }
@@ -110,8 +107,11 @@ fn start1(ips: u64, h: Half) -> Start
     ensures { λ r. ⌜ Starts r (Roots.rangeOf ips (h .tnsz) (h .epd) (h .ttbr) .root) ⌝ }
 {
     let tnsz = h.tnsz;
+    if h.epd {
+        return start::nowhere(Ending::Translation, 0);
+    }
     let n = level::levels_below(level::start1(tnsz));
-    start_unless(h.epd, 64 - tnsz, level::output_size(ips), n, h.ttbr)
+    start_from(64 - tnsz, level::output_size(ips), n, h.ttbr)
 }
 
 // Stage 1 for walks, with the VA ranges that are wanted. With stage 1 off there is no walk.
@@ -157,15 +157,11 @@ pub fn start2(r: El2) -> Start
 {
     let vtcr = r.vtcr;
     let start = level::start2(vtcr);
-    let none = startless(start, level::size_check(vtcr), r.pamax);
+    if startless(start, level::size_check(vtcr), r.pamax) {
+        return start::nowhere(Ending::Translation, 0);
+    }
     let n = level::levels_below(start);
-    start_unless(
-        none,
-        64 - vtcr.t0sz(),
-        level::output_size(vtcr.ps()),
-        n,
-        r.vttbr,
-    )
+    start_from(64 - vtcr.t0sz(), level::output_size(vtcr.ps()), n, r.vttbr)
 }
 
 // With stage 2 off no walk starts.

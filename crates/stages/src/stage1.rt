@@ -86,27 +86,23 @@ fn start_at(p: Prepared1, address: u64) -> Start
     }
 }
 
-// With stage 1 off all but DC and a fetch is Device memory.
-fn off_device(p: Prepared1, a: Access) -> bool
-    ensures { λ r. ⌜ r ≡ Calls.offDevice (Calls.stage1Of p) a ⌝ }
-{
-    !p.dc & !access::is_fetch(a)
-}
-
-// Stage 1 off: the address as it is, if it is one.
+// Stage 1 off: the address as it is, if it is one. All but DC and a fetch is Device memory, and a fetch is never unaligned.
 fn off(p: Prepared1, a: Access) -> Ending
     requires { ⌜ Calls.Sound1 p × (listedSize (a .size) ≡ true) ⌝ }
     ensures { λ r. ⌜ r ≡ Calls.offEnding (Calls.stage1Of p) a ⌝ }
 {
     let bounds = p.bounds;
-    if range::in_pamax(bounds, a.address) {
-        if off_device(p, a) & access::unaligned(a) {
-            Ending::Misaligned
-        } else {
-            Ending::Passed
-        }
+    let dc = p.dc;
+    if !range::in_pamax(bounds, a.address) {
+        return Ending::AddressSize;
+    }
+    if dc {
+        return Ending::Passed;
+    }
+    if access::unaligned(a) {
+        Ending::Misaligned
     } else {
-        Ending::AddressSize
+        Ending::Passed
     }
 }
 

@@ -1,7 +1,7 @@
 -- `start2` meets its contract: its one test is each of the definition's four.
 -- Assumes nothing.
 use borrow.Author.Needs.{needs}
-use mathlib.Core.Path.{_≡_, refl, subst}
+use mathlib.Core.Path.{_≡_, refl, sym, _∙_}
 use mathlib.Core.Bool.{Bool, true, false, _&&_, _||_, true≢false}
 use native.Mathlib.Nat.{mod-lt}
 use native.Mathlib.Omega.{arith}
@@ -10,7 +10,7 @@ use lib.IntN.{ℤ, pos}
 use lib.Signed.{ltZ}
 use Rattle.bits.specs.Bits.{pick}
 use Rattle.descriptor.specs.declared.entry.FaultKind.the-variants.{Translation}
-use Rattle.walk.specs.Calls.{Starts}
+use Rattle.walk.specs.Ends.{faulted}
 use Rattle.walk.specs.declared.table.Root.{Root}
 use Rattle.walk.specs.declared.table.Root.the-variants.{Unusable}
 use Rattle.registers.specs.Vtcr
@@ -63,29 +63,33 @@ tested c =
     let k = c .before .size-check in
     cc (start2-held _ (s .result) (mod-lt _ (omega arith)) (s .ensures), check-held _ _ _ (k .result) (omega arith) (mod-lt _ (omega arith)) (k .ensures))
 
-below : (c : tie.After-levels-below) → c .levels-below .result ≡ levelsBelow (startOf (c .before .before .before .before .before .args .r))
+below : (c : tie.After-levels-below) → c .levels-below .result ≡ levelsBelow (startOf (c .before .before .before .before .before .before .args .r))
 below c =
-    let s = c .before .before .before .start2 in
+    let s = c .before .before .before .before .start2 in
     cc (start2-held _ (s .result) (mod-lt _ (omega arith)) (s .ensures))
 
-start-unless-requires : tie.Need-start-unless-requires
-start-unless-requires c κs =
+start-from-requires : tie.Need-start-from-requires
+start-from-requires c κs =
     let n = c .before .before .before in
-    let r = n .before .before .before .before .before .args .r in (
+    let t = n .before .before in
+    let r = t .before .before .before .before .args .r in
+    let p = none-of (ltZ (startOf r) (pos 0)) (ltZ (startOf r) (pos 1) && leb (r .pamax) 42) (ltZ (bitsOf r) (pos 1)) (ltZ (pos 13) (bitsOf r)) (sym (tested t) ∙ n .before .if1 .left) in (
       omega arith,
-      rw (n .levels-below .ensures) (few-below2 _ _ (mod-lt _ (omega arith)) (n .before .before .before .start2 .ensures)),
-      λ e.
-          let p = none-of _ _ _ _ (rw (tested (n .before)) at e) in
-          rw (below n, c .output-size .ensures, c .before .ps .ensures, c .before .before .t0sz .ensures) (small2 r (p .0) (p .1)),
+      rw (n .levels-below .ensures) (few-below2 _ _ (mod-lt _ (omega arith)) (t .before .before .start2 .ensures)),
+      rw (below n, c .output-size .ensures, c .before .ps .ensures, c .before .before .t0sz .ensures) (small2 r (p .0) (p .1)),
     )
 
 pub start2-spec : {M : Type 1} → statement M
+unfolding pick faulted
 start2-spec =
     tie.close
     (tie.spec
-    (λ c κs. tt) (λ c κs. tt) (λ c κs. tt) (λ c κs. tt) (λ c κs. tt)
+    (λ c κs. tt) (λ c κs. tt) (λ c κs. tt)
+    (λ c κs. tt)
+    (λ c. rw (← root2-is _, ← tested (c .before .before), c .before .if1 .taken) (c .nowhere .ensures))
+    (λ c κs. tt) (λ c κs. tt)
     (λ c. search needs) (λ c κs. tt) (λ c κs. tt)
-    start-unless-requires
+    start-from-requires
     (λ c.
     let n = c .before .before .before .before in
-    rw (← root2-is _, ← tested (n .before), ← below n, ← c .before .before .before .t0sz .ensures, ← c .before .before .ps .ensures, ← c .before .output-size .ensures) (c .start-unless .ensures)))
+    rw (← root2-is _, ← tested (n .before .before), n .before .if1 .left, ← below n, ← c .before .before .before .t0sz .ensures, ← c .before .before .ps .ensures, ← c .before .output-size .ensures) (c .start-from .ensures)))
