@@ -1,13 +1,14 @@
 // The stages of a walk, as registers give them (01, Walk).
 ghost use mathlib.Core.Path.{_≡_};
 ghost use Prim.Native.Nat.{_≤_, _<_};
-ghost use mathlib.Core.Bool.{false, _&&_, _||_};
+ghost use mathlib.Core.Bool.{true, false, _&&_, _||_};
 ghost use lib.Dec.{leb};
 ghost use lib.IntN.{pos};
 ghost use lib.Signed.{ltZ};
 ghost use Rattle.bits.specs.Bits.{pick};
 ghost use Rattle.descriptor.specs.declared.entry.FaultKind.the-variants.{Translation};
 ghost use Rattle.walk.specs.declared.table.Root.the-variants.{Unusable};
+ghost use Rattle.descriptor.specs.Turn.{limit};
 ghost use Rattle.walk.specs.Calls.{Small, Starts, Sound2, stage2Of};
 ghost use Rattle.stages.specs.Calls.{Sound1, stage1Of, memoryOf};
 ghost use Rattle.settings.specs.Settings.{settings};
@@ -175,6 +176,13 @@ fn start2_if(on: bool, r: El2) -> Start
     }
 }
 
+// Nor is there an IPA. (Where the limit was 2 to a size in any case, the compiler would shift at each IPA in the place of a comparison.)
+fn limit_if(on: bool, inputsize: u64) -> u64
+    ensures { λ r. ⌜ (on ≡ true → r ≡ limit inputsize) ⌝ }
+{
+    if on { turn::limit(inputsize) } else { 0 }
+}
+
 // Stage 2 for walks.
 pub fn prepared2(r: El2) -> Prepared2
     ensures { λ p. ⌜ (stage2Of p ≡ Calls.narrowed2 r) × Sound2 p ⌝ }
@@ -186,7 +194,7 @@ pub fn prepared2(r: El2) -> Prepared2
     Prepared2 {
         on,
         inputsize,
-        limit: turn::limit(inputsize),
+        limit: limit_if(on, inputsize),
         start: start2_if(on, r),
         cd: hcr.cd(),
         id: hcr.id(),

@@ -1,6 +1,7 @@
 -- For the contracts of code: what checks give, and the starts that a walk may be called with.
 -- Assumes nothing.
 use mathlib.Core.Path.{_≡_}
+use mathlib.Core.Bool.{true}
 use Prim.Native.Nat.{ℕ, _-_, _≤_, _<_, _^_}
 use Rattle.reads.specs.Program.{Outcome, reached, stopped}
 use Rattle.descriptor.specs.Entry.{shift}
@@ -73,5 +74,5 @@ stage2Of p = record { on = p .on; inputsize = p .inputsize; root = rootOf (p .st
 
 -- stage 2's words go together
 pub record Sound2 (p : Prepared2) : Type 0 where
-  pub limit : p .limit ≡ limit (p .inputsize)
+  pub limit : p .on ≡ true → p .limit ≡ limit (p .inputsize)
   pub start : Starts (p .start) (rootOf (p .start))

@@ -157,7 +157,7 @@ pub fn translate2(
     log: &mut [u64],
     count: usize,
 ) -> End
-    requires { ⌜ Sound2 p × (listedSize (a .size) ≡ true) × (base + length (now bytes) ≤ 2 ^ 64) × (count + 4 ≤ length (now log)) ⌝ }
+    requires { ⌜ Sound2 p × (listedSize (a .size) ≡ true) × (base + length (now bytes) ≤ 2 ^ 64) × (count + 4 ≤ length (now log)) × (p .on ≡ true) ⌝ }
     ensures { λ r. ⌜ Ran (captured base (now (bytes .entry))) (Definitions.translate2 (stage2Of p) a onwalk ipa) (now (log .entry)) count (Ends.ended (Stages.Two ipa onwalk) (stage2Attributes (Definitions.uncached2 (stage2Of p) a onwalk)) r) (r .count) (now (log .exit)) × (r .count ≤ count + 4) ⌝ }
 {
     let limit = p.limit;

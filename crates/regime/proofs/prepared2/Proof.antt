@@ -14,7 +14,7 @@ returns c =
     let s = c .before .before .before .start2-if in
     let k = c .before .before .before .before .before .before .before .before in
     let root = starts-root (s .result) (pick (k .stage2-on .result) (root2 (k .before .args .r)) (Unusable Translation 0)) (s .ensures) in
-    (cc root, record { limit = c .before .before .before .before .limit .ensures; start = rw root (s .ensures) })
+    (cc root, record { limit = c .before .before .before .before .limit-if .ensures; start = rw root (s .ensures) })
 
 pub prepared2-spec : {M : Type 1} → statement M
 prepared2-spec =

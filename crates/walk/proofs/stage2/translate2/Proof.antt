@@ -21,7 +21,7 @@ use Rattle.walk.proofs.stage2.translate2.Tie as tie
 inside : (c : tie.Else1) → let z = c .before .before .before .before .args in beyond (z .ipa) (z .p .inputsize) ≡ false
 inside c =
     let z = c .before .before .before .before .args in
-    sym (beyond-limit (z .ipa) (z .p .inputsize)) ∙ lt-leb _ _ (rw (c .before .before .before .before .pre .0 .limit) at (c .if1 .left))
+    sym (beyond-limit (z .ipa) (z .p .inputsize)) ∙ lt-leb _ _ (rw (c .before .before .before .before .pre .0 .limit (c .before .before .before .before .pre .4)) at (c .if1 .left))
 
 -- the walk from a root that is of use
 usable : (c : tie.After-walk2-arg) → let p = c .before .before .before .before .before .before .before .args .p in (rootOf (p .start) ≡ Usable (p .start .table)) × Fit (p .start)
@@ -34,7 +34,7 @@ returns c =
     rw (c .stopped .ensures)
     ((
       ran-outside _ (stage2Of (z .p)) (z .a) (z .onwalk) (z .ipa) (stage2Attributes (uncached2 (stage2Of (z .p)) (z .a) (z .onwalk)))
-          (sym (beyond-limit (z .ipa) (z .p .inputsize)) ∙ le-leb _ _ (rw (c .before .before .before .before .before .pre .0 .limit) at (c .before .if1 .taken))),
+          (sym (beyond-limit (z .ipa) (z .p .inputsize)) ∙ le-leb _ _ (rw (c .before .before .before .before .before .pre .0 .limit (c .before .before .before .before .before .pre .4)) at (c .before .if1 .taken))),
       omega arith,
     ))
 
