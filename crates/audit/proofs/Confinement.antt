@@ -34,7 +34,7 @@ use Rattle.answers.specs.declared.Verdict.the-variants as Verdict
 use Rattle.answers.specs.Question.{turnedAway, told, askOver, ask}
 use Rattle.bits.specs.Bits.{pick}
 use Rattle.answers.proofs.Refusals.{refuse-refused, refuse-accepted, by-refuse, holdsFor, isNoRoot, none-holds}
-use Rattle.audit.specs.Lists.{zip}
+use Rattle.lists.specs.Lists.{zip}
 use Rattle.audit.specs.Audit.{stage2Read, auditFrom, auditGrounds, auditOver, audit}
 use Rattle.audit.specs.Confinement.{InFrame, Audited, the-root, listed, InTables, ReadIn, MissingIn, AnswerIn, Confined, Confinement}
 use Rattle.audit.specs.declared.AuditAnswer.{AuditAnswer}

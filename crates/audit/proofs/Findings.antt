@@ -19,7 +19,8 @@ use Rattle.descriptor.specs.declared.entry.DescriptorType.the-variants as Descr
 use Rattle.bits.proofs.Tests.{and-left, and-right}
 use Rattle.walk.specs.declared.table.Table.{Table}
 use Rattle.walk.proofs.Walks.{Says}
-use Rattle.audit.specs.Audit.{found, orElse, isListed, stage2Read, eachEntry, examineAs, examine, auditTable, auditListed}
+use Rattle.lists.specs.Search.{isListed}
+use Rattle.audit.specs.Audit.{found, orElse, stage2Read, eachEntry, examineAs, examine, auditTable, auditListed}
 use Rattle.audit.specs.declared.FindingKind.{FindingKind}
 use Rattle.audit.specs.declared.AuditAnswer.{AuditAnswer}
 use Rattle.audit.specs.declared.AuditAnswer.the-variants.{Clean, Found, Refused}

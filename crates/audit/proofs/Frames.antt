@@ -11,7 +11,7 @@ use lib.Pow.{pow-pos, pow-add}
 use borrow.Author.Tests.{leb-true, le-leb}
 use Rattle.bits.specs.Bits.{upper}
 use Rattle.descriptor.specs.Entry.{outputAddress}
-use Rattle.audit.specs.Audit.{granted}
+use Rattle.lists.specs.Search.{granted}
 use Rattle.audit.specs.Confinement.{InFrame}
 
 -- a part of a granted range is granted

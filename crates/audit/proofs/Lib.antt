@@ -1,3 +1,5 @@
 pub mod Frames
 pub mod Findings
 pub mod Confinement
+pub mod Calls
+pub mod Telling

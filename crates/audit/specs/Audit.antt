@@ -1,9 +1,8 @@
 -- The audit of stage 2's tables against the granted frames (01, The audit).
 -- Assumes nothing.
-use mathlib.Core.Bool.{Bool, false, not, _&&_, _||_}
+use mathlib.Core.Bool.{not}
 use mathlib.Core.List.{List, [], _∷_}
 use Prim.Native.Nat.{ℕ, zero, suc, _+_, _-_, _*_, _^_}
-use lib.Dec.{ltb, leb, eqb}
 use lib.ListN.{length}
 use Rattle.bits.specs.Bits.{pick, upper}
 use Rattle.reads.specs.Program.{Request, stage-2}
@@ -23,7 +22,8 @@ use Rattle.regime.specs.Roots.{root2}
 use Rattle.registers.specs.declared.El2.{El2}
 use Rattle.answers.specs.Answers.{refusalNumber, itemOf}
 use Rattle.answers.specs.Refusals.{Ground, refuse, highCapture, failing}
-use Rattle.audit.specs.Lists.{zip, wellFormed}
+use Rattle.lists.specs.Lists.{zip, wellFormed}
+use Rattle.lists.specs.Search.{granted, touches, isListed}
 use Rattle.audit.specs.declared.FindingKind.{FindingKind}
 use Rattle.audit.specs.declared.FindingKind.the-variants.{NotCaptured, TouchesGrant, UnlistedTable, OutsideGrants}
 use Rattle.audit.specs.declared.AuditAnswer.{AuditAnswer}
@@ -58,22 +58,6 @@ unfoldable pub orElse : AuditAnswer → AuditAnswer → AuditAnswer
 orElse Clean b = b
 orElse (Found f) b = Found f
 orElse (Refused r) b = Refused r
-
--- ---- against the lists
-
--- n bytes from a lie inside one grant
-unfoldable pub granted : List (ℕ × ℕ) → (a n : ℕ) → Bool
-granted [] a n = false
-granted (g ∷ l) a n = (leb (g .0) a && leb (a + n) (g .0 + g .1)) || granted l a n
-
--- n bytes from a share a byte with some grant
-unfoldable pub touches : List (ℕ × ℕ) → (a n : ℕ) → Bool
-touches [] a n = false
-touches (g ∷ l) a n = (ltb a (g .0 + g .1) && ltb (g .0) (a + n)) || touches l a n
-
-unfoldable pub isListed : List (ℕ × ℕ) → (table level : ℕ) → Bool
-isListed [] table level = false
-isListed (t ∷ l) table level = (eqb (t .0) table && eqb (t .1) level) || isListed l table level
 
 -- ---- one table
 

@@ -19,8 +19,9 @@ use Rattle.regime.specs.Roots.{root2}
 use Rattle.registers.specs.declared.El1.{El1}
 use Rattle.registers.specs.declared.El2.{El2}
 use Rattle.answers.specs.Question.{Told, ask}
-use Rattle.audit.specs.Lists.{zip}
-use Rattle.audit.specs.Audit.{granted, isListed, audit}
+use Rattle.lists.specs.Lists.{zip}
+use Rattle.lists.specs.Search.{granted, isListed}
+use Rattle.audit.specs.Audit.{audit}
 use Rattle.audit.specs.declared.AuditAnswer.the-variants.{Clean}
 
 -- n bytes from an address lie in a granted frame: an aligned 4,096 bytes inside one grant

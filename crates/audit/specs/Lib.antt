@@ -1,3 +1,3 @@
-pub mod Lists
 pub mod Audit
 pub mod Confinement
+pub mod Calls

@@ -1,5 +1,14 @@
-// What the audit of stage 2's tables gives.
+// The audit of stage 2's tables against the granted frames (01, The audit).
 use answers::Refusal;
+use registers::El2;
+use walk::end;
+ghost use mathlib.Core.Path.{_≡_};
+ghost use mathlib.Core.List.{List};
+ghost use Prim.Native.Nat.{ℕ};
+ghost use Rattle.audit.specs.Audit as Audits;
+ghost use Rattle.audit.specs.Confinement.{Confinement};
+
+pub mod table;
 
 // What can be wrong with an audited table, in the order of the numbers 1 to 4.
 pub enum FindingKind {
@@ -19,4 +28,65 @@ pub enum AuditAnswer {
     Clean,
     Found(Finding),
     Refused(Refusal),
+}
+
+fn finding_number(k: FindingKind) -> u64
+    ensures { λ n. ⌜ n ≡ Audits.findingNumber k ⌝ }
+{
+    match k {
+        FindingKind::NotCaptured => 1,
+        FindingKind::TouchesGrant => 2,
+        FindingKind::UnlistedTable => 3,
+        FindingKind::OutsideGrants => 4,
+    }
+}
+
+// The number of an audit's answer.
+pub fn number(a: AuditAnswer) -> u64
+    ensures { λ n. ⌜ n ≡ Audits.auditNumber a ⌝ }
+{
+    match a {
+        AuditAnswer::Clean => 0,
+        AuditAnswer::Found(f) => {
+            let kind = f.kind;
+            finding_number(kind)
+        }
+        AuditAnswer::Refused(why) => answers::refusal_number(why),
+    }
+}
+
+// What is wrong first with stage 2's tables in a capture whose first byte lies at base, if anything is: with the root, and then with each
+// listed table. Grants are pairs of an address and a byte count, tables of an address and a level.
+pub fn audit(
+    bytes: &[u8],
+    base: u64,
+    r: El2,
+    grants: &[u64],
+    counts: &[u64],
+    tables: &[u64],
+    levels: &[u64],
+) -> AuditAnswer
+    ensures told { λ answer. ⌜ answer ≡ Audits.audit base (now (bytes .entry)) r (now (grants .entry)) (now (counts .entry)) (now (tables .entry)) (now (levels .entry)) ⌝ }
+    ensures confined { λ answer. ⌜ ((other : List ℕ) → Confinement base (now (bytes .entry)) other r (now (grants .entry)) (now (counts .entry)) (now (tables .entry)) (now (levels .entry))) ⌝ }
+{
+    if capture::ends_high(base, bytes.len() as u64) {
+        return AuditAnswer::Refused(Refusal::HighCapture);
+    }
+    let item = settings::of_audit(r);
+    if item != 0 {
+        return AuditAnswer::Refused(Refusal::Settings { item });
+    }
+    if !lists::well_formed(grants, counts, tables, levels) {
+        return AuditAnswer::Refused(Refusal::AuditLists);
+    }
+    if !settings::stage2_on(r) {
+        return AuditAnswer::Refused(Refusal::NoRoot);
+    }
+    let start = regime::start2(r);
+    let ending = start.ending;
+    if !end::passed(ending) {
+        return AuditAnswer::Refused(Refusal::NoRoot);
+    }
+    let root = start.table;
+    table::from_root(bytes, base, grants, counts, tables, levels, root)
 }

@@ -12,18 +12,19 @@ zip [] l = []
 zip (a ∷ k) [] = []
 zip (a ∷ k) (b ∷ l) = (a, b) ∷ zip k l
 
--- a test of each, and of each with the one before it
+-- a test of each, and of each with the one after it
 unfoldable pub all : (ℕ × ℕ → Bool) → List (ℕ × ℕ) → Bool
 all f [] = true
 all f (e ∷ l) = f e && all f l
 
+-- an element and the first of those after it, if there is one
+unfoldable pub leads : (ℕ × ℕ → ℕ × ℕ → Bool) → ℕ × ℕ → List (ℕ × ℕ) → Bool
+leads f e [] = true
+leads f e (d ∷ l) = f e d
+
 unfoldable pub ascends : (ℕ × ℕ → ℕ × ℕ → Bool) → List (ℕ × ℕ) → Bool
 ascends f [] = true
-ascends f (e ∷ l) = after e l
-  where
-    after : ℕ × ℕ → List (ℕ × ℕ) → Bool
-    after e [] = true
-    after e (d ∷ l) = f e d && after d l
+ascends f (e ∷ l) = leads f e l && ascends f l
 
 abbrev pub mostGrants : ℕ
 mostGrants = 256
@@ -50,8 +51,14 @@ tableFits e = wholeFrames (e .0) && leb (e .0 + 4096) (2 ^ 48) && leb 1 (e .1) &
 unfoldable pub tableBefore : ℕ × ℕ → ℕ × ℕ → Bool
 tableBefore e d = ltb (e .0) (d .0) || (eqb (e .0) (d .0) && ltb (e .1) (d .1))
 
+unfoldable pub grantsFormed : (grants counts : List ℕ) → Bool
+grantsFormed grants counts =
+    eqb (length grants) (length counts) && leb (length grants) mostGrants && all grantFits (zip grants counts) && ascends grantBefore (zip grants counts)
+
+unfoldable pub tablesFormed : (tables levels : List ℕ) → Bool
+tablesFormed tables levels =
+    eqb (length tables) (length levels) && leb (length tables) mostTables && all tableFits (zip tables levels) && ascends tableBefore (zip tables levels)
+
 -- the four lists are well formed; otherwise 15
 unfoldable pub wellFormed : (grants counts tables levels : List ℕ) → Bool
-wellFormed grants counts tables levels =
-    eqb (length grants) (length counts) && leb (length grants) mostGrants && all grantFits (zip grants counts) && ascends grantBefore (zip grants counts)
-    && eqb (length tables) (length levels) && leb (length tables) mostTables && all tableFits (zip tables levels) && ascends tableBefore (zip tables levels)
+wellFormed grants counts tables levels = grantsFormed grants counts && tablesFormed tables levels

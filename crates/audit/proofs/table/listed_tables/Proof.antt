@@ -1,0 +1,69 @@
+-- `listed_tables` meets its contract: a table that is clean leaves the answer to those after it.
+-- Assumes nothing.
+use borrow.Author.Needs.{needs}
+use borrow.Author.Tests.{not-true, not-false}
+use mathlib.Core.Path.{refl, sym, _∙_}
+use Prim.Native.Nat.{_+_, _-_, _*_, _^_, _≤_}
+use native.Mathlib.Nat.{le-refl, mul-le-mul}
+use native.Mathlib.Omega.{arith}
+use lib.ListN.{length, getD}
+use Rattle.capture.specs.Capture.{captured}
+use Rattle.lists.specs.Lists.{zip, tableFits}
+use Rattle.lists.proofs.Pairs.{all-at}
+use Rattle.audit.proofs.Calls.{table-bounds, Listing, listing-next, listing-found, listing-over}
+use Rattle.audit.proofs.table.listed_tables.Statement.{statement}
+use Rattle.audit.proofs.table.listed_tables.Tie as tie
+
+abbrev Inv-loop : tie.InvT-loop
+Inv-loop bytes base grants counts tables levels g stride i₀ i = Listing (captured base bytes) g (zip grants counts) tables levels i
+
+abbrev μ-loop : tie.MeasureT-loop
+μ-loop bytes base grants counts tables levels g stride i₀ i = length tables - i
+
+-- where the table at i lies, and at which level
+bounds : (c : tie.In-loop Inv-loop μ-loop) →
+    let z = c .before .before .before .before .before .before .before .args in
+    let i = c .before .loop .i in
+    (getD (z .tables .now) i 0 + 4096 ≤ 2 ^ 48) × (1 ≤ getD (z .levels .now) i 0) × (getD (z .levels .now) i 0 ≤ 3)
+bounds c =
+    let f = c .before .before .before .before .before .before .before .pre .0 in
+    table-bounds _ _ (all-at _ _ (f .levelled) tableFits (f .listed) _ (c .loop-test .taken))
+
+one-table-requires : tie.Need-one-table-requires Inv-loop μ-loop
+one-table-requires c κs =
+    let l = c .before .before in
+    let k = l .before .before .before .before .before .before .before in
+    let b = bounds l in
+    let few : 3 - getD (k .args .levels .now) (l .before .loop .i) 0 ≤ 2 = omega (arith, b .1) in
+    let low : k .args .g .stride * (3 - getD (k .args .levels .now) (l .before .loop .i) 0) ≤ 13 * 2 = mul-le-mul (k .pre .2) few in
+    (k .pre .0, omega (arith, few), omega (arith, k .pre .1, low), k .pre .3, omega (arith, k .pre .2), omega (arith, b .0))
+
+pub listed-tables-spec : {M : Type 1} → statement M
+listed-tables-spec =
+    tie.close
+    (tie.spec
+    Inv-loop
+    μ-loop
+    (λ c. refl)
+    (λ c. search needs)
+    (λ c. let f = c .before .before .before .before .before .before .before .before .pre .0 in omega (arith, c .before .loop-test .taken, f .levelled))
+    (λ c. bounds (c .before) .2)
+    (λ c. search needs)
+    (λ c. search needs)
+    one-table-requires
+    (λ c κs. search needs)
+    (λ c.
+    let o = c .before .before in
+    let l = o .before .before .before in
+    let f = l .before .before .before .before .before .before .before .pre .0 in
+    o .one-table .ensures ∙ listing-found _ _ _ _ _ (f .levelled) _ (l .loop-test .taken) (rw (← o .one-table .ensures) (sym (c .before .is-clean .ensures) ∙ not-true _ (c .if1 .taken))) (l .before .loop .inv))
+    (λ c. search needs)
+    (λ c. search needs)
+    (λ c.
+    let o = c .before .before in
+    let l = o .before .before .before in
+    let f = l .before .before .before .before .before .before .before .pre .0 in
+    listing-next _ _ _ _ _ (f .levelled) _ (l .loop-test .taken) (rw (← o .one-table .ensures) (sym (c .before .is-clean .ensures) ∙ not-false _ (c .if1 .left))) (l .before .loop .inv))
+    (λ c.
+    let f = c .before .before .before .before .before .before .before .pre .0 in
+    listing-over _ _ _ _ _ (f .levelled) _ (c .loop-test .left) (c .before .loop .inv)))

@@ -1,0 +1,3 @@
+pub mod Pairs
+pub mod Orders
+pub mod Searches

@@ -1,0 +1,43 @@
+-- `granted` meets its contract: what is not found at a pair is looked for among those after it.
+-- Assumes nothing.
+use borrow.Author.Needs.{needs}
+use mathlib.Core.Path.{refl, sym, _∙_}
+use Prim.Native.Nat.{_-_}
+use native.Mathlib.Omega.{arith}
+use lib.ListN.{length}
+use Rattle.lists.specs.Lists.{grantFits}
+use Rattle.lists.proofs.Pairs.{all-at, grant-ends}
+use Rattle.lists.proofs.Searches.{grantedScan, Searching, search-next, search-found, search-over}
+use Rattle.lists.proofs.search.granted.Statement.{statement}
+use Rattle.lists.proofs.search.granted.Tie as tie
+
+abbrev Inv-loop : tie.InvT-loop
+Inv-loop grants counts address n end i₀ i = Searching (grantedScan address n) grants counts i
+
+abbrev μ-loop : tie.MeasureT-loop
+μ-loop grants counts address n end i₀ i = length grants - i
+
+surrounds-requires : tie.Need-surrounds-requires Inv-loop μ-loop
+surrounds-requires c κs =
+    let p = c .before .before .before .before .before .before .pre in
+    grant-ends _ _ (all-at _ _ (p .0) grantFits (p .1) _ (c .before .before .loop-test .taken))
+
+pub granted-spec : {M : Type 1} → statement M
+unfolding grantedScan
+granted-spec =
+    tie.close
+    (tie.spec
+    Inv-loop
+    μ-loop
+    (λ c. search needs)
+    (λ c. refl)
+    (λ c. search needs)
+    (λ c. search needs)
+    (λ c. omega (arith, c .before .loop-test .taken, c .before .before .before .before .before .pre .0))
+    (λ c. omega (arith, c .before .before .loop-test .taken, c .before .before .before .before .before .before .pre .0))
+    surrounds-requires
+    (λ c. search-found (grantedScan _ _) _ _ (c .before .before .before .before .before .before .before .before .pre .0) _ (c .before .before .before .before .loop-test .taken) (sym (c .before .surrounds .ensures) ∙ c .if1 .taken) (c .before .before .before .before .before .loop .inv))
+    (λ c. search needs)
+    (λ c. search needs)
+    (λ c. search-next (grantedScan _ _) _ _ (c .before .before .before .before .before .before .before .before .pre .0) _ (c .before .before .before .before .loop-test .taken) (sym (c .before .surrounds .ensures) ∙ c .if1 .left) (c .before .before .before .before .before .loop .inv))
+    (λ c. search-over (grantedScan _ _) _ _ (c .before .before .before .before .pre .0) _ (c .loop-test .left) (c .before .loop .inv)))
