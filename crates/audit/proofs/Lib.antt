@@ -1,3 +1,5 @@
 pub mod Frames
 pub mod Findings
+pub mod Dependence
 pub mod Confinement
+pub mod Untouched

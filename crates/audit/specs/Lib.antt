@@ -1,3 +1,5 @@
 pub mod Lists
 pub mod Audit
 pub mod Confinement
+pub mod Dependence
+pub mod Untouched
