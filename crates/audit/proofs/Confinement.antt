@@ -3,16 +3,15 @@
 use mathlib.Core.Path.{_≡_, refl, sym, subst, _∙_}
 use mathlib.Core.Bool.{true}
 use mathlib.Core.List.{List}
-use Prim.Native.Nat.{ℕ, suc, _+_, _-_, _*_, _%_, _^_, _<_}
+use Prim.Native.Nat.{ℕ, _-_, _*_, _%_, _^_}
 use native.Mathlib.Omega.{arith}
-use lib.ListN.{length, getD}
+use lib.ListN.{length}
 use borrow.Author.Tests.{not-false}
 use Rattle.reads.specs.Program.{Request, Outcome, reached, stopped, run, reads, nil}
 use Rattle.access.specs.declared.Access.{Access}
 use Rattle.reads.specs.declared.Read.{Read}
 use Rattle.reads.proofs.Holds.{OnOutcome, Holds, holds-reads, holds-run}
 use Rattle.capture.specs.Capture.{captured, SameBytes}
-use Rattle.capture.proofs.Bytewise.{same-word}
 use Rattle.answers.specs.Answers.{answer}
 use Rattle.answers.specs.declared.Refusal.{Refusal}
 use Rattle.walk.specs.declared.stop.Stop.{Stop}
@@ -35,12 +34,13 @@ use Rattle.answers.specs.Question.{turnedAway, told, askOver, ask}
 use Rattle.bits.specs.Bits.{pick}
 use Rattle.answers.proofs.Refusals.{refuse-refused, refuse-accepted, by-refuse, holdsFor, isNoRoot, none-holds}
 use Rattle.lists.specs.Lists.{zip}
-use Rattle.audit.specs.Audit.{stage2Read, auditFrom, auditGrounds, auditOver, audit}
+use Rattle.audit.specs.Audit.{auditFrom, auditGrounds, auditOver, audit}
 use Rattle.audit.specs.Confinement.{InFrame, Audited, the-root, listed, InTables, ReadIn, MissingIn, AnswerIn, Confined, Confinement}
 use Rattle.audit.specs.declared.AuditAnswer.{AuditAnswer}
 use Rattle.audit.specs.declared.AuditAnswer.the-variants.{Clean, Refused}
 use Rattle.audit.proofs.Frames.{GrantedLeaf, address-in-frame, descriptor-in-frame}
 use Rattle.audit.proofs.Findings.{clean-left, clean-right, Tables, top, low, entry-says}
+use Rattle.audit.proofs.Dependence.{same-entry}
 
 -- ---- what a clean audit says
 
@@ -48,7 +48,7 @@ not-clean : {X : Type 0} (why : Refusal) → Refused why ≡ Clean → X
 not-clean why e = absurd (let z : _≡_ {A = ℕ} 0 1 = cc in omega arith)
 
 -- it met no refusal
-unrefused : (l : List Ground) (x : AuditAnswer) → refuse Refused l x ≡ Clean → verdict l ≡ Verdict.Accepted
+pub unrefused : (l : List Ground) (x : AuditAnswer) → refuse Refused l x ≡ Clean → verdict l ≡ Verdict.Accepted
 unrefused l x e = by-verdict (verdict l) refl
   where
     by-verdict : (v : Verdict) → verdict l ≡ v → verdict l ≡ Verdict.Accepted
@@ -89,14 +89,6 @@ module _ (base : ℕ) (bytes bytes′ : List ℕ) (bounds : length bytes ≡ len
     audited top = the-root rooted
     audited (low {k} h l) = listed rooted (4 - k) l
 
-    -- an entry is the same in both captures
-    same-entry : (n j table i : ℕ) → T (suc n) j table → i < 2 ^ j → m′ (stage2Read (table + 8 * i)) ≡ m (stage2Read (table + 8 * i))
-    same-entry n j table i t less =
-        same-word base bytes bytes′ bounds (stage2Read (table + 8 * i))
-        (λ k h from to.
-        let at : table + (8 * i + k) ≡ table + 8 * i + k = omega arith in
-        subst (λ z. getD bytes′ (z - base) 0 ≡ getD bytes (z - base) 0) at (same table (8 * 2 ^ j) (audited t) (8 * i + k) (omega arith) (omega arith) (omega arith)))
-
     in-tables : (n at : ℕ) → Spot T n at → InTables (root2 r) tables at
     in-tables n at p =
         record { table = p .table; size = 8 * 2 ^ p .bits; of = audited (p .of); from = omega (arith, p .is); to = omega (arith, p .is, p .less) }
@@ -120,7 +112,8 @@ module _ (base : ℕ) (bytes bytes′ : List ℕ) (bounds : length bytes ≡ len
           read2 = in-tables;
           top = top;
           says = λ n j table i x t less e.
-              entry-says m grants tables root (sane .0) (sane .1) (clean-left _ _ clean) (clean-right _ _ clean) n j table i x t less (sym (same-entry n j table i t less) ∙ e);
+              entry-says m grants tables root (sane .0) (sane .1) (clean-left _ _ clean) (clean-right _ _ clean) n j table i x t less
+              (same-entry base bytes bytes′ bounds j table (same _ _ (audited t)) i less ∙ e);
           lies = lies;
         }
 

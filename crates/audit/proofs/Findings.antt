@@ -28,7 +28,7 @@ use Rattle.audit.proofs.Frames.{GrantedLeaf}
 
 -- ---- clean answers
 
-not-clean : {X : Type 0} (kind : FindingKind) (address : ℕ) → found kind address ≡ Clean → X
+pub not-clean : {X : Type 0} (kind : FindingKind) (address : ℕ) → found kind address ≡ Clean → X
 not-clean kind address e = absurd (let z : _≡_ {A = ℕ} 0 1 = cc in omega arith)
 
 pub clean-left : (a b : AuditAnswer) → orElse a b ≡ Clean → a ≡ Clean
@@ -66,7 +66,7 @@ module _ (m : Request → Read) (grants tables : List (ℕ × ℕ)) (root : Tabl
   abbrev g : Geometry
   g = root .geometry
 
-  listed-clean : (l : List (ℕ × ℕ)) (a level : ℕ) → isListed l a level ≡ true → auditListed m g grants tables l ≡ Clean →
+  pub listed-clean : (l : List (ℕ × ℕ)) (a level : ℕ) → isListed l a level ≡ true → auditListed m g grants tables l ≡ Clean →
       auditTable m g grants tables (3 - level) (g .stride) a ≡ Clean
   unfolding isListed auditListed
   listed-clean [] a level h e = absurd (false≢true h)

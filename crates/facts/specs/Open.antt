@@ -23,10 +23,10 @@ use Rattle.batch.specs.Batch.{answered, batchOver}
 use Rattle.ledger.specs.Ledger.{count, ledger}
 use Rattle.ledger.specs.Ledger.{ascii, digits, decimal, line}
 use Rattle.ledger.specs.Line.{lineInto}
-use Rattle.lists.specs.Lists.{zip, all, leads, ascends, grantFits, grantBefore, tableFits, tableBefore, grantsFormed, tablesFormed, grantsFormed tablesFormed wellFormed}
+use Rattle.lists.specs.Lists.{zip, all, leads, ascends, grantFits, grantBefore, tableFits, tableBefore, grantsFormed, tablesFormed, wellFormed}
 use Rattle.lists.specs.Search.{granted, touches, isListed}
 use Rattle.audit.specs.Audit.{orElse, eachEntry, missing, examineAs, examine, auditTable, auditListed, auditFrom, auditOver}
 
 unfoldable pub opened : Unit {0}
-unfolding pick bind run reads ends descriptorType decodeAs deviceOf mairNibble stage2Bits shareabilityOf isDevice isNonCacheable reported normal mairByte stage2Codes stage1OffAttributes deviceRank cacheRank shareRank combineMemory stage1Permits stage2Permits little within memory wordAt byteAt image descriptorAt sparse ifPresent follow walk walkFrom unless settled permitted give check2 translate2 place1 check1 stage1Off translate1 finish access answer number carries firstFailing settings auditSettings outputSize start1 start2 sizeCheck levelsBelow rootOf root2 stage1 stage2 refuse told turnedAway askOver answerOf outputOf count ledger answered batchOver ascii digits decimal line lineInto zip all leads ascends grantFits grantBefore tableFits tableBefore wellFormed orElse granted touches isListed eachEntry missing examineAs examine auditTable auditListed auditFrom auditOver
+unfolding pick bind run reads ends descriptorType decodeAs deviceOf mairNibble stage2Bits shareabilityOf isDevice isNonCacheable reported normal mairByte stage2Codes stage1OffAttributes deviceRank cacheRank shareRank combineMemory stage1Permits stage2Permits little within memory wordAt byteAt image descriptorAt sparse ifPresent follow walk walkFrom unless settled permitted give check2 translate2 place1 check1 stage1Off translate1 finish access answer number carries firstFailing settings auditSettings outputSize start1 start2 sizeCheck levelsBelow rootOf root2 stage1 stage2 refuse told turnedAway askOver answerOf outputOf count ledger answered batchOver ascii digits decimal line lineInto zip all leads ascends grantFits grantBefore tableFits tableBefore grantsFormed tablesFormed wellFormed orElse granted touches isListed eachEntry missing examineAs examine auditTable auditListed auditFrom auditOver
 opened = tt
