@@ -1,6 +1,6 @@
 -- Questions and audits over a sparse capture, and what 01's tables say of their answers.
 -- Assumes nothing.
-use mathlib.Core.List.{List}
+use mathlib.Core.List.{List, map}
 use Prim.Native.Nat.{ℕ}
 use lib.ListN.{replicate}
 use Rattle.access.specs.declared.Access.{Access}
@@ -37,3 +37,7 @@ asked c r g a words = row (askOver (sparse (c .base) (c .length) (c .words)) (c 
 
 unfoldable pub audited : Image → El2 → (grants counts tables levels : List ℕ) → AuditAnswer
 audited c = auditOver (sparse (c .base) (c .length) (c .words)) (c .base) (c .length)
+
+-- with its lists pair by pair: grants (address, byte count), tables (address, level)
+abbrev pub auditedPairs : Image → El2 → (grants tables : List (ℕ × ℕ)) → AuditAnswer
+auditedPairs c r grants tables = audited c r (map (λ e. e .0) grants) (map (λ e. e .1) grants) (map (λ e. e .0) tables) (map (λ e. e .1) tables)

@@ -26,9 +26,10 @@ use Rattle.ledger.specs.declared.line.LineAnswer.the-variants.{Written, Short}
 use Rattle.batch.specs.declared.BatchAnswer.the-variants as Batch
 use Rattle.answers.specs.declared.Refusal.the-variants.{BatchLists, Settings}
 use Rattle.audit.specs.declared.FindingKind.the-variants.{NotCaptured, TouchesGrant, UnlistedTable, OutsideGrants}
-use Rattle.audit.specs.declared.AuditAnswer.the-variants.{Clean, Found}
+use Rattle.audit.specs.declared.AuditAnswer.the-variants.{Clean}
+use Rattle.audit.specs.Audit.{found}
 use Rattle.facts.specs.Open.{opened}
-use Rattle.facts.specs.Asked.{Image, before, asked, audited}
+use Rattle.facts.specs.Asked.{Image, before, asked, audited, auditedPairs}
 
 -- ---- the capture and the registers that all cases start from
 
@@ -42,8 +43,15 @@ words =
 abbrev pub image : (changed : List (ℕ × ℕ)) → Image
 image changed = record { base = 0x40000000; length = 0x8000; words = changed ++ words }
 
+-- cut to some length
+abbrev pub cut : (length : ℕ) → Image
+cut length = record { base = 0x40000000; length = length; words = words }
+
+abbrev pub registers : (pamax hcr vtcr vttbr sctlr : ℕ) → El2
+registers pamax hcr vtcr vttbr sctlr = record { pamax = pamax; hcr = record { 0 = hcr }; vtcr = record { 0 = vtcr }; vttbr = vttbr; sctlr = record { 0 = sctlr } }
+
 abbrev pub el2 : (vtcr : ℕ) → El2
-el2 vtcr = record { pamax = 40; hcr = record { 0 = 0x80000001 }; vtcr = record { 0 = vtcr }; vttbr = 0x40000000; sctlr = record { 0 = 0 } }
+el2 vtcr = registers 40 0x80000001 vtcr 0x40000000 0
 
 abbrev pub el1 : (sctlr tcr : ℕ) → El1
 el1 sctlr tcr = record { sctlr = record { 0 = sctlr }; tcr = record { 0 = tcr }; ttbr0 = 0x1000; ttbr1 = 0; mair = 0xFF }
@@ -127,7 +135,7 @@ case-D : asked (image ((0x40005008, 0x50343) ∷ [])) host guest (access 0x1008 
 unfolding opened asked
 case-D = refl
 
-case-E : asked (record { base = 0x40000000; length = 0x4000; words = words }) host guest (access 0x1008 0 0) 24
+case-E : asked (cut 0x4000) host guest (access 0x1008 0 0) 24
     ≡ record { number = 6; values = address 0x40004000 ∷ stage 1 ∷ level 2 ∷ on-walk false ∷ reads 7 ∷ []; log = logged (two) }
 unfolding opened asked
 case-E = refl
@@ -182,36 +190,35 @@ case-L-walks = refl
 
 -- ---- M
 
-abbrev pub tables : List ℕ
-tables = 0x40001000 ∷ 0x40002000 ∷ []
+-- (address, byte count)
+abbrev pub grants : List (ℕ × ℕ)
+grants = (0x90000, 0x1000) ∷ (0x40003000, 0x3000) ∷ []
 
-abbrev pub levels : List ℕ
-levels = 2 ∷ 3 ∷ []
+-- (address, level)
+abbrev pub tables : List (ℕ × ℕ)
+tables = (0x40001000, 2) ∷ (0x40002000, 3) ∷ []
 
-case-M : audited (image []) host (0x90000 ∷ 0x40003000 ∷ []) (0x1000 ∷ 0x3000 ∷ []) tables levels ≡ Clean
+case-M : auditedPairs (image []) host grants tables ≡ Clean
 unfolding opened audited
 case-M = refl
 
 -- without the first grant
-case-M-found : audited (image []) host (0x40003000 ∷ []) (0x3000 ∷ []) tables levels ≡ Found (record { kind = OutsideGrants; address = 0x40002280 })
+case-M-found : auditedPairs (image []) host ((0x40003000, 0x3000) ∷ []) tables ≡ found OutsideGrants 0x40002280
 unfolding opened audited
 case-M-found = refl
 
 -- finding 1: the last entry of the level 3 table is cut off
-case-M-cut : audited (record { base = 0x40000000; length = 0x2FF8; words = words }) host (0x90000 ∷ 0x40003000 ∷ []) (0x1000 ∷ 0x3000 ∷ []) tables levels
-    ≡ Found (record { kind = NotCaptured; address = 0x40002000 })
+case-M-cut : auditedPairs (cut 0x2FF8) host grants tables ≡ found NotCaptured 0x40002000
 unfolding opened audited
 case-M-cut = refl
 
 -- finding 2: a grant holds that table
-case-M-touched : audited (image []) host (0x90000 ∷ 0x40002000 ∷ []) (0x1000 ∷ 0x4000 ∷ []) tables levels
-    ≡ Found (record { kind = TouchesGrant; address = 0x40002000 })
+case-M-touched : auditedPairs (image []) host ((0x90000, 0x1000) ∷ (0x40002000, 0x4000) ∷ []) tables ≡ found TouchesGrant 0x40002000
 unfolding opened audited
 case-M-touched = refl
 
 -- finding 3: that table is not listed
-case-M-unlisted : audited (image []) host (0x90000 ∷ 0x40003000 ∷ []) (0x1000 ∷ 0x3000 ∷ []) (0x40001000 ∷ []) (2 ∷ [])
-    ≡ Found (record { kind = UnlistedTable; address = 0x40001000 })
+case-M-unlisted : auditedPairs (image []) host grants ((0x40001000, 2) ∷ []) ≡ found UnlistedTable 0x40001000
 unfolding opened audited
 case-M-unlisted = refl
 
@@ -283,7 +290,7 @@ case-batch-refused = refl
 
 -- lists of unequal length are refused before the settings, and a refusal of the settings writes nothing either
 abbrev pub strange : Shared
-strange = record { el2 = record { pamax = 41; hcr = record { 0 = 0 }; vtcr = record { 0 = 0 }; vttbr = 0; sctlr = record { 0 = 0 } }; el1 = guest; kind = 0; el = 0; size = 8 }
+strange = record { el2 = registers 41 0 0 0 0; el1 = guest; kind = 0; el = 0; size = 8 }
 
 case-batch-order : batchOver (sparse 0x40000000 0x8000 words) 0x40000000 0x8000 strange (0x1008 ∷ []) [] [] .answer ≡ Batch.Refused BatchLists
 unfolding opened

@@ -1,3 +1,4 @@
 pub mod Open
 pub mod Asked
 pub mod Cases
+pub mod Audits
