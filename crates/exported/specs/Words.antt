@@ -26,6 +26,11 @@ use Rattle.batch.specs.declared.BatchAnswer.{BatchAnswer}
 use Rattle.batch.specs.declared.BatchAnswer.the-variants.{Done, Refused}
 use Rattle.exported.specs.declared.Words.{Words}
 use Rattle.exported.specs.declared.BatchWords.{BatchWords}
+use Rattle.exported.specs.declared.AuditWords.{AuditWords}
+use Rattle.audit.specs.Audit.{auditNumber, audit}
+use Rattle.audit.specs.declared.AuditAnswer.{AuditAnswer}
+use Rattle.audit.specs.declared.AuditAnswer.the-variants.{Clean, Found}
+use Rattle.audit.specs.declared.AuditAnswer.the-variants as A
 
 -- ---- codes of this interface
 
@@ -116,6 +121,13 @@ batchWords (Done l) =
 batchWords (Refused r) =
     record { number = batchNumber (Refused r); item = getD (itemOf r) 0 0; asked = 0; translated = 0; faulted = 0; absent = 0; unsettled = 0 }
 
+-- ---- an audit's answer: its number, and a finding's address or a settings refusal's item
+
+unfoldable pub auditWords : AuditAnswer → AuditWords
+auditWords Clean = record { number = auditNumber Clean; item = 0; address = 0 }
+auditWords (Found f) = record { number = auditNumber (Found f); item = 0; address = f .address }
+auditWords (A.Refused r) = record { number = auditNumber (A.Refused r); item = getD (itemOf r) 0 0; address = 0 }
+
 -- the bytes that a line took, or 0 where the buffer was too short for it
 abbrev pub lineWord : LineAnswer → ℕ
 lineWord (Written n) = n
@@ -138,3 +150,7 @@ asked base bytes pamax hcr vtcr vttbr sctlr2 sctlr1 tcr ttbr0 ttbr1 mair at kind
 abbrev pub batched : (base : ℕ) (bytes : List ℕ) (pamax hcr vtcr vttbr sctlr2 sctlr1 tcr ttbr0 ttbr1 mair kind el size : ℕ) (addresses outputs numbers : List ℕ) → BatchTold
 batched base bytes pamax hcr vtcr vttbr sctlr2 sctlr1 tcr ttbr0 ttbr1 mair kind el size addresses outputs numbers =
     batch base bytes (sharing (el2 pamax hcr vtcr vttbr sctlr2) (el1 sctlr1 tcr ttbr0 ttbr1 mair) kind el size) addresses outputs numbers
+
+-- the audit
+abbrev pub audited : (base : ℕ) (bytes : List ℕ) (pamax hcr vtcr vttbr sctlr2 : ℕ) (grants counts tables levels : List ℕ) → AuditAnswer
+audited base bytes pamax hcr vtcr vttbr sctlr2 = audit base bytes (el2 pamax hcr vtcr vttbr sctlr2)

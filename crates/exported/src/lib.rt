@@ -1,4 +1,4 @@
-// The question, the batch and the ledger's line as calls on numbers and slices, for programs in C and Rust.
+// The question, the batch, the audit and the ledger's line as calls on numbers and slices, for programs in C and Rust.
 use access::Access;
 use answers::Answer;
 use answers::Refusal;
@@ -6,6 +6,7 @@ use attributes::Cacheability;
 use attributes::DeviceType;
 use attributes::MemoryType;
 use attributes::Shareability;
+use audit::AuditAnswer;
 use batch::BatchAnswer;
 use ledger::Ledger;
 use ledger::line;
@@ -391,6 +392,58 @@ pub extern "C" fn humpelkaas_batch(
         outputs,
         numbers,
     ))
+}
+
+// An audit's answer in numbers: its own, a settings refusal's item, and a finding's address.
+#[repr(C)]
+pub struct AuditWords {
+    pub number: u64,
+    pub item: u64,
+    pub address: u64,
+}
+
+fn audit_in_words(a: AuditAnswer) -> AuditWords
+    ensures { λ w. ⌜ w ≡ Numbers.auditWords a ⌝ }
+{
+    let number = audit::number(a);
+    match a {
+        AuditAnswer::Clean => AuditWords {
+            number,
+            item: 0,
+            address: 0,
+        },
+        AuditAnswer::Found(f) => AuditWords {
+            number,
+            item: 0,
+            address: f.address,
+        },
+        AuditAnswer::Refused(why) => AuditWords {
+            number,
+            item: item_of(why),
+            address: 0,
+        },
+    }
+}
+
+// The audit. Grants are pairs of an address and a byte count, at most 256; tables of an address and a level, at most 1,024.
+#[no_mangle]
+pub extern "C" fn humpelkaas_audit(
+    bytes: &[u8],
+    base: u64,
+    pamax: u64,
+    hcr: u64,
+    vtcr: u64,
+    vttbr: u64,
+    sctlr2: u64,
+    grants: &[u64],
+    counts: &[u64],
+    tables: &[u64],
+    levels: &[u64],
+) -> AuditWords
+    ensures answered { λ w. ⌜ w ≡ Numbers.auditWords (Numbers.audited base (now (bytes .entry)) pamax hcr vtcr vttbr sctlr2 (now (grants .entry)) (now (counts .entry)) (now (tables .entry)) (now (levels .entry))) ⌝ }
+{
+    let r = el2(pamax, hcr, vtcr, vttbr, sctlr2);
+    audit_in_words(audit::audit(bytes, base, r, grants, counts, tables, levels))
 }
 
 // The bytes written, or 0 for a buffer that is too short: no line is empty.
