@@ -56,6 +56,16 @@ pub struct BatchWords {
     pub unsettled: u64,
 }
 
+/// An audit's answer as the exported call returns it: number 0 is clean, 1 to 4 a finding, others a refusal. A word that the answer
+/// does not carry is 0.
+#[repr(C)]
+#[derive(Clone, Copy, Debug, Default, PartialEq, Eq)]
+pub struct AuditWords {
+    pub number: u64,
+    pub item: u64,
+    pub address: u64,
+}
+
 extern "C" {
     fn humpelkaas_translate(
         bytes: *const u8,
@@ -103,6 +113,25 @@ extern "C" {
         numbers: *mut u64,
         numbered: usize,
     ) -> BatchWords;
+
+    fn humpelkaas_audit(
+        bytes: *const u8,
+        length: usize,
+        base: u64,
+        pamax: u64,
+        hcr_el2: u64,
+        vtcr_el2: u64,
+        vttbr_el2: u64,
+        sctlr_el2: u64,
+        grants: *const u64,
+        grants_len: usize,
+        counts: *const u64,
+        counts_len: usize,
+        tables: *const u64,
+        tables_len: usize,
+        levels: *const u64,
+        levels_len: usize,
+    ) -> AuditWords;
 }
 
 /// Asks for one address.
@@ -162,6 +191,33 @@ pub fn batch(q: &Question, capture: Capture, addresses: &[u64], outputs: &mut [u
             outputs.len(),
             numbers.as_mut_ptr(),
             numbers.len(),
+        )
+    }
+}
+
+/// Audits stage 2's tables against grants by address and byte count, with tables by address and level. Of the question it takes
+/// PAMax and the EL2 registers.
+#[inline]
+pub fn audit(q: &Question, capture: Capture, grants: &[u64], counts: &[u64], tables: &[u64], levels: &[u64]) -> AuditWords {
+    // Sound as above.
+    unsafe {
+        humpelkaas_audit(
+            capture.bytes.as_ptr(),
+            capture.bytes.len(),
+            capture.base,
+            q.pamax,
+            q.hcr_el2,
+            q.vtcr_el2,
+            q.vttbr_el2,
+            q.sctlr_el2,
+            grants.as_ptr(),
+            grants.len(),
+            counts.as_ptr(),
+            counts.len(),
+            tables.as_ptr(),
+            tables.len(),
+            levels.as_ptr(),
+            levels.len(),
         )
     }
 }

@@ -114,7 +114,7 @@ pub fn compare(count: u64, seed: u64) -> (u64, Vec<String>) {
     for n in 0..count {
         let (image, asked) = questions.next();
         let q = &asked.question;
-        let capture = Capture { base: asked.base, bytes: &image.bytes[asked.part.clone()] };
+        let capture = asked.part.capture(image);
         let long = length(&mut random, n);
         let list = addresses(&mut random, q, long);
         // One list in twenty is of another length.

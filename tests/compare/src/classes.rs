@@ -4,7 +4,42 @@ use crate::walk::{bits, shift, Question};
 use std::collections::BTreeMap;
 
 /// Classes by row and column, each with how often it was met.
-pub struct Classes(BTreeMap<(String, String), u64>);
+#[derive(Default)]
+pub struct Counts(BTreeMap<(String, String), u64>);
+
+impl Counts {
+    /// Adds classes that are not met yet.
+    pub fn add<T: ToString>(&mut self, row: &str, columns: impl IntoIterator<Item = T>) {
+        for column in columns {
+            self.0.insert((row.to_string(), column.to_string()), 0);
+        }
+    }
+
+    pub fn count(&mut self, row: &str, column: impl ToString) {
+        *self.0.entry((row.to_string(), column.to_string())).or_insert(0) += 1;
+    }
+
+    /// Prints a line for each row.
+    pub fn print(&self) {
+        let mut last = "";
+        for ((row, column), count) in &self.0 {
+            if row != last {
+                print!("{}{row}:", if last.is_empty() { "" } else { "\n" });
+                last = row;
+            }
+            print!(" {column}{}{count}", if column.is_empty() { "" } else { "=" });
+        }
+        println!();
+    }
+
+    /// The classes that were never met.
+    pub fn missed(&self) -> Vec<String> {
+        self.0.iter().filter(|(_, &count)| count == 0).map(|((row, column), _)| format!("{row} {column}").trim().to_string()).collect()
+    }
+}
+
+/// The classes of questions.
+pub struct Classes(pub Counts);
 
 const MEANINGS: [&str; 8] =
     ["translated", "translation", "address size", "access flag", "permission", "alignment", "not in the capture", "unsettled"];
@@ -20,8 +55,8 @@ const FIRST_BYTES: &str = " 6 first bytes of the descriptor there, by number";
 const LAST_BYTES: &str = " 6 last bytes of the descriptor there, by number";
 const START_1: &str = " 0 translated, by stage 1 start level";
 const START_2: &str = " 0 translated, by stage 2 start level";
-const HIGH: &str = "11 high capture";
-const SETTINGS: &str = "12 settings, by item";
+pub const HIGH: &str = "11 high capture";
+pub const SETTINGS: &str = "12 settings, by item";
 
 /// Stage 2's start level, with a mark if its root is of concatenated tables.
 fn start2(q: &Question) -> String {
@@ -40,7 +75,7 @@ fn start1(q: &Question) -> String {
 impl Classes {
     /// All classes that can exist, none of them met.
     pub fn new() -> Classes {
-        let mut all = Classes(BTreeMap::new());
+        let mut all = Counts::default();
         let levels = ["0", "1", "2", "3"];
         for one in levels {
             all.add(TRANSLATED, levels.map(|two| format!("{one}/{two}")));
@@ -62,17 +97,7 @@ impl Classes {
         all.add(HIGH, ["past 2^48", "past 2^64"]);
         all.add(SETTINGS, ["1", "2", "3", "4", "5", "6", "7", "8", "9"]);
         all.add("13 kind, EL or size", [""]);
-        all
-    }
-
-    fn add<T: ToString>(&mut self, row: &str, columns: impl IntoIterator<Item = T>) {
-        for column in columns {
-            self.0.insert((row.to_string(), column.to_string()), 0);
-        }
-    }
-
-    fn count(&mut self, row: &str, column: String) {
-        *self.0.entry((row.to_string(), column)).or_insert(0) += 1;
+        Classes(all)
     }
 
     /// Counts a question under every class that it is in, by its answer.
@@ -80,45 +105,27 @@ impl Classes {
         let end = base.checked_add(length as u64);
         match words.number {
             0 => {
-                self.count(TRANSLATED, format!("{}/{}", words.level1, words.level2));
+                self.0.count(TRANSLATED, format!("{}/{}", words.level1, words.level2));
                 if words.level1 != 0 {
-                    self.count(START_1, start1(q));
+                    self.0.count(START_1, start1(q));
                 }
                 if words.level2 != 0 {
-                    self.count(START_2, start2(q));
+                    self.0.count(START_2, start2(q));
                 }
             }
-            10 => self.count("10 short log", String::new()),
-            11 => self.count(HIGH, if end.is_some() { "past 2^48" } else { "past 2^64" }.to_string()),
-            12 => self.count(SETTINGS, words.item.to_string()),
-            13 => self.count("13 kind, EL or size", String::new()),
-            number => self.count(&stopped(number, words.stage, words.onwalk), words.level.to_string()),
+            10 => self.0.count("10 short log", ""),
+            11 => self.0.count(HIGH, if end.is_some() { "past 2^48" } else { "past 2^64" }),
+            12 => self.0.count(SETTINGS, words.item.to_string()),
+            13 => self.0.count("13 kind, EL or size", ""),
+            number => self.0.count(&stopped(number, words.stage, words.onwalk), words.level.to_string()),
         }
         if words.number == 6 {
             let (first, after) = (words.address, words.address + 8);
             if let Some(end) = end.filter(|&end| base <= first && first < end) {
-                self.count(FIRST_BYTES, (end - first).to_string());
+                self.0.count(FIRST_BYTES, (end - first).to_string());
             } else if first < base && base < after && end >= Some(after) {
-                self.count(LAST_BYTES, (after - base).to_string());
+                self.0.count(LAST_BYTES, (after - base).to_string());
             }
         }
-    }
-
-    /// Prints a line for each row.
-    pub fn print(&self) {
-        let mut last = "";
-        for ((row, column), count) in &self.0 {
-            if row != last {
-                print!("{}{row}:", if last.is_empty() { "" } else { "\n" });
-                last = row;
-            }
-            print!(" {column}{}{count}", if column.is_empty() { "" } else { "=" });
-        }
-        println!();
-    }
-
-    /// The classes that were never met.
-    pub fn missed(&self) -> Vec<String> {
-        self.0.iter().filter(|(_, &count)| count == 0).map(|((row, column), _)| format!("{row} {column}").trim().to_string()).collect()
     }
 }

@@ -1,15 +1,13 @@
 //! Random questions that reach every class of answer: registers that pass the settings, tables to walk, then some damage.
 //! Purely random registers and memory would nearly always be refused or fault before the first read.
 use crate::random::Random;
-use crate::tables::{passing_leaf_bits, stage1_leaf_bits, stage2_leaf_bits, table_bits, Builder, Image, LENGTH};
+use crate::tables::{passing_leaf_bits, stage1_leaf_bits, stage2_leaf_bits, table_bits, Builder, Image, Part, LENGTH};
 use crate::walk::{self, bits, Answer, Capture, Question, SIZES};
-use std::ops::Range;
 
 /// A question with its capture, which is a part of an image, and the length of its log.
 pub struct Asked {
     pub question: Question,
-    pub part: Range<usize>,
-    pub base: u64,
+    pub part: Part,
     pub log_words: usize,
 }
 
@@ -98,16 +96,16 @@ fn vtcr_el2(random: &mut Random, pamax: u64, deep: bool) -> u64 {
 }
 
 /// Registers that pass the settings, with either stage on or off.
-struct Plan {
-    question: Question,
+pub struct Plan {
+    pub question: Question,
     stage1: bool,
-    stage2: bool,
+    pub stage2: bool,
     /// Most starts at level 0 and all leaves at level 3, for the longest walks.
-    deep: bool,
+    pub deep: bool,
 }
 
 impl Plan {
-    fn new(random: &mut Random) -> Plan {
+    pub fn new(random: &mut Random) -> Plan {
         let deep = random.percent(20);
         let pamax = if deep { random.pick(&[44, 48]) } else { random.pick(&SIZES) };
         let (m, vm, dc) = match random.below(100) {
@@ -153,19 +151,19 @@ impl Plan {
 }
 
 /// A base for tables of a given output size: few lie where an output size faults, and no end passes 2^48.
-fn table_base(random: &mut Random, output_size: u64) -> u64 {
+pub fn table_base(random: &mut Random, output_size: u64, length: u64) -> u64 {
     let width = random.between(19, output_size);
     let base = match random.below(10) {
         0..=3 => 0x4000_0000,
         4 => 0,
-        5 => (1 << output_size) - LENGTH,
-        6 => (1 << 48) - LENGTH,
+        5 => (1 << output_size) - length,
+        6 => (1 << 48) - length,
         _ => bits(random.bits(width), 47, 16) << 16,
     };
-    if base + LENGTH > 1 << output_size && random.percent(90) {
+    if base + length > 1 << output_size && random.percent(90) {
         return 0x4000_0000;
     }
-    base.min((1 << 48) - LENGTH)
+    base.min((1 << 48) - length)
 }
 
 /// An address for when stage 1 is off, of a width that the rest lets through. Its top byte may be ignored.
@@ -182,7 +180,7 @@ fn build(random: &mut Random, image: &mut Image, plan: &mut Plan) {
     let (address, upper, size) = plan.stage1_input(random);
     let q = &mut plan.question;
     let code = if plan.stage2 { bits(q.vtcr_el2, 18, 16) } else { bits(q.tcr_el1, 34, 32) };
-    image.clear(table_base(random, SIZES[code.min(5) as usize]));
+    image.clear(table_base(random, SIZES[code.min(5) as usize], LENGTH));
     for register in [&mut q.ttbr0_el1, &mut q.ttbr1_el1, &mut q.vttbr_el2] {
         *register = random.word();
     }
@@ -284,23 +282,35 @@ fn damage_register(random: &mut Random, q: &mut Question) {
         2 => flip(random, &mut q.ttbr0_el1),
         3 => flip(random, &mut q.ttbr1_el1),
         4 => flip(random, &mut q.mair_el1),
-        5 => flip(random, &mut q.hcr_el2),
-        6 => flip(random, &mut q.vtcr_el2),
-        7 => flip(random, &mut q.vttbr_el2),
-        8 => flip(random, &mut q.sctlr_el2),
-        9 => q.tcr_el1 ^= random.pick(&[7 << 32, 0x3f, 0x3f << 16, 3 << 14, 3 << 30, 1 << 7, 1 << 23, 3 << 37]) & random.word(),
-        10 => q.vtcr_el2 ^= random.pick(&[7 << 16, 0x3f, 3 << 14, 3 << 6]) & random.word(),
-        11 => q.hcr_el2 ^= 1 << random.pick(&[0u64, 2, 12, 27, 31, 32, 33]),
-        12 => q.sctlr_el1 ^= 1 << random.pick(&[0u64, 2, 12, 19, 25]),
+        5 => q.sctlr_el1 ^= 1 << random.pick(&[0u64, 2, 12, 19, 25]),
+        6 => q.tcr_el1 ^= random.pick(&[7 << 32, 0x3f, 0x3f << 16, 3 << 14, 3 << 30, 1 << 7, 1 << 23, 3 << 37]) & random.word(),
+        _ => damage_el2_register(random, q),
+    }
+}
+
+/// The same for a register of EL2.
+pub fn damage_el2_register(random: &mut Random, q: &mut Question) {
+    match random.below(7) {
+        0 => flip(random, &mut q.hcr_el2),
+        1 => flip(random, &mut q.vtcr_el2),
+        2 => flip(random, &mut q.vttbr_el2),
+        3 => flip(random, &mut q.sctlr_el2),
+        4 => q.vtcr_el2 ^= random.pick(&[7 << 16, 0x3f, 3 << 14, 3 << 6]) & random.word(),
+        5 => q.hcr_el2 ^= 1 << random.pick(&[0u64, 2, 12, 27, 31, 32, 33]),
         _ => q.sctlr_el2 ^= 1 << 25,
     }
 }
 
-/// Another PAMax, or a number that is not listed. Some of these would be listed if their high bits were dropped.
+/// A PAMax that is not listed. Some would be listed if their high bits were dropped.
+pub fn unlisted_pamax(random: &mut Random) -> u64 {
+    random.pick(&[0, 31, 33, 35, 39, 41, 43, 45, 47, 49, 52, 64, 48 << 8, 1 << 32 | 48, u64::MAX])
+}
+
+/// Another PAMax, or a number that is not listed.
 fn damage_number(random: &mut Random, q: &mut Question) {
     let unlisted = random.pick(&[2, 3, 4, 5, 16, 256, 1 << 32, 1 << 63, u64::MAX]);
     match random.below(6) {
-        0 => q.pamax = random.pick(&[0, 31, 33, 35, 39, 41, 43, 45, 47, 49, 52, 64, 48 << 8, 1 << 32 | 48, u64::MAX]),
+        0 => q.pamax = unlisted_pamax(random),
         1 => q.pamax = random.pick(&SIZES),
         2 => q.kind = unlisted,
         3 => q.el = unlisted,
@@ -311,35 +321,14 @@ fn damage_number(random: &mut Random, q: &mut Question) {
 /// Cuts the capture, from either end, at any byte of a descriptor that is read, or anywhere.
 fn cut(random: &mut Random, image: &Image, asked: &mut Asked) {
     let read = read_address(random, image, &asked.question).filter(|_| random.percent(90));
-    let at = read.map_or_else(|| random.below(LENGTH + 1), |address| address - image.base);
-    let cut = (at + random.below(9)).min(LENGTH) as usize;
-    if random.percent(50) {
-        asked.part.end = cut.max(asked.part.start);
-    } else {
-        asked.part.start = cut.min(asked.part.end);
-    }
-    asked.base = image.base + asked.part.start as u64;
-}
-
-/// Moves the capture so that its end is at 2^48, past it, or past 2^64. Some have few bytes or none.
-fn move_capture(random: &mut Random, asked: &mut Asked) {
-    let length = random.pick(&[0, 1, 7, 8, 9, 4096, LENGTH as usize]).min(asked.part.len());
-    asked.part.end = asked.part.start + length;
-    let length = length as u64;
-    asked.base = match random.below(7) {
-        0 => (1 << 48) - length,
-        1 => (1 << 48) - length + 1,
-        2 => (1 << 48) - 1,
-        3 => (1 << 48) + random.below(2),
-        4 => u64::MAX - random.below(3),
-        5 => 0u64.wrapping_sub(length),
-        _ => random.word(),
-    };
+    let at = read.map_or_else(|| random.below(image.length() + 1), |address| address - image.base);
+    let at = at + random.below(9);
+    asked.part.cut(random, image, at);
 }
 
 /// Asks the question with up to three things changed in it, in its tables, its capture or its log.
 fn damage(random: &mut Random, image: &mut Image, question: Question) -> Asked {
-    let mut asked = Asked { question, part: 0..LENGTH as usize, base: image.base, log_words: 24 };
+    let mut asked = Asked { question, part: Part::whole(image), log_words: 24 };
     for _ in 0..random.pick(&[0, 0, 0, 1, 1, 1, 1, 2, 3]) {
         match random.below(100) {
             0..=44 => damage_descriptor(random, image, &asked.question),
@@ -349,7 +338,7 @@ fn damage(random: &mut Random, image: &mut Image, question: Question) -> Asked {
             80..=82 => asked.question.address = random.word(),
             83..=86 => asked.log_words = random.below(40) as usize,
             87..=95 => cut(random, image, &mut asked),
-            _ => move_capture(random, &mut asked),
+            _ => asked.part.move_away(random),
         }
     }
     asked
@@ -370,7 +359,7 @@ impl Questions {
     pub fn new(seed: u64) -> Questions {
         let mut random = Random::new(seed);
         let plan = Plan::new(&mut random);
-        Questions { random, built: Image::new(), filled: Image::new(), plan, of_built: 0, of_filled: 0 }
+        Questions { random, built: Image::new(LENGTH), filled: Image::new(LENGTH), plan, of_built: 0, of_filled: 0 }
     }
 
     /// The next question, and the image that its capture is a part of.

@@ -1,4 +1,8 @@
-//! Compares the proved function with an independent walk, and both with answers from outside.
+//! Compares the proved functions with an independent walk and audit, and both with answers from outside.
+mod audit;
+mod audit_build;
+mod audit_damage;
+mod audits;
 mod batches;
 mod classes;
 mod generate;
@@ -17,17 +21,21 @@ use vectors::{answer_text, log_text, question_text, Line};
 use walk::{Capture, Question};
 
 const USAGE: &str = "\
-compare vectors FILE..      hold the walk and the proved function to the answers of files
+compare vectors FILE..      hold the walk, the audit and the proved functions to the answers of files
 compare random COUNT SEED   compare the proved function with the walk on COUNT random questions, which SEED determines
 compare batches COUNT SEED  compare the proved batch with the walk on COUNT random batches
-The last line is 'N compared, M differ'. Exit status 0 exactly when M is 0, vectors were read, and no class of questions
-was missed by 200,000 random questions or more, or by 2,000 random batches or more; 2 for bad arguments.";
+compare audits COUNT SEED   compare the proved audit with the independent one on COUNT random audits
+The last line is 'N compared, M differ'. Exit status 0 exactly when M is 0, vectors were read, and no class was missed by
+200,000 random questions, 2,000 random batches or 20,000 random audits or more; 2 for bad arguments.";
 
 /// From this many random questions on, a class that is missed is an error.
 const ALL_CLASSES: u64 = 200_000;
 
 /// From this many random batches on, a sort that is missed is an error.
 const ALL_BATCHES: u64 = 2_000;
+
+/// From this many random audits on, a class that is missed is an error.
+const ALL_AUDITS: u64 = 20_000;
 
 /// Disagreements printed in full: after a gross error there would be many thousands.
 const PRINTED: u64 = 20;
@@ -109,22 +117,36 @@ impl Compared {
     }
 }
 
-/// Holds both to one line; why it does not hold, if it does not.
-fn hold(text: &str) -> Option<(&'static str, Option<Compared>)> {
+/// Which of two answers is not what a line says, if either is not.
+fn blamed(ours_agrees: bool, proved_agrees: bool) -> Option<&'static str> {
+    match (ours_agrees, proved_agrees) {
+        (true, true) => None,
+        (false, true) => Some("the independent answer differs"),
+        (true, false) => Some("the proved answer differs"),
+        (false, false) => Some("both answers differ"),
+    }
+}
+
+/// Holds both to one line. Says why it does not hold, if it does not.
+fn hold(text: &str) -> bool {
     let line = match Line::read(text) {
         Some(line) => line,
-        None => return Some(("the line cannot be read", None)),
+        None => return unread(text),
     };
     let before = line.bytes.clone();
     let both = Compared::new(&line.question, Capture { base: line.base, bytes: &line.bytes }, line.log_words);
     let agrees = |reply: &Reply| line.agrees(&reply.words, reply.reads());
-    let why = match (agrees(&both.walk), agrees(&both.proved)) {
-        (true, true) => both.difference(line.bytes == before)?,
-        (false, true) => "the walk differs",
-        (true, false) => "the proved function differs",
-        (false, false) => "both differ",
-    };
-    Some((why, Some(both)))
+    let why = blamed(agrees(&both.walk), agrees(&both.proved)).or_else(|| both.difference(line.bytes == before));
+    if let Some(why) = why {
+        println!("{why}: {text}");
+        both.print();
+    }
+    why.is_none()
+}
+
+fn unread(text: &str) -> bool {
+    println!("the line cannot be read: {text}");
+    false
 }
 
 fn hold_vectors(files: &[String]) -> ExitCode {
@@ -137,24 +159,32 @@ fn hold_vectors(files: &[String]) -> ExitCode {
                 return ExitCode::from(2);
             }
         };
-        let passed_over = |line: &str| line.trim().is_empty() || line.starts_with('#') || line.starts_with("audit ");
-        for line in text.lines().filter(|line| !passed_over(line)) {
+        for line in text.lines().filter(|line| !line.trim().is_empty() && !line.starts_with('#')) {
+            let holds = if line.starts_with("audit ") { audits::hold(line) } else { hold(line) };
             compared += 1;
-            if let Some((why, both)) = hold(line) {
-                differ += 1;
-                println!("{why}: {line}");
-                if let Some(both) = both {
-                    both.print();
-                }
-            }
+            differ += !holds as u64;
         }
     }
     println!("{compared} compared, {differ} differ");
-    if differ == 0 && compared > 0 {
+    status(differ == 0 && compared > 0)
+}
+
+fn status(success: bool) -> ExitCode {
+    if success {
         ExitCode::SUCCESS
     } else {
         ExitCode::FAILURE
     }
+}
+
+/// Reports a run over random input. What was missed counts if there was enough input to meet it.
+fn report(count: u64, differ: u64, missed: Vec<String>, enough: u64) -> ExitCode {
+    let missed = if count >= enough { missed } else { Vec::new() };
+    for class in &missed {
+        println!("missed: {class}");
+    }
+    println!("{count} compared, {differ} differ");
+    status(differ == 0 && missed.is_empty())
 }
 
 /// Prints a question on which the two differ as a line of the vectors, with the walk's answer, and then both replies.
@@ -176,7 +206,7 @@ fn compare_random(count: u64, seed: u64) -> ExitCode {
     for compared in 0..count {
         let (image, asked) = questions.next();
         let q = &asked.question;
-        let capture = Capture { base: asked.base, bytes: &image.bytes[asked.part.clone()] };
+        let capture = asked.part.capture(image);
         let both = Compared::new(q, capture, asked.log_words);
         classes.meet(q, capture.base, capture.bytes.len(), &both.walk.words);
         if let Some(why) = both.difference(image.bytes == image.copy) {
@@ -190,45 +220,31 @@ fn compare_random(count: u64, seed: u64) -> ExitCode {
             reported = Instant::now();
         }
     }
-    classes.print();
-    let missed = if count >= ALL_CLASSES { classes.missed() } else { Vec::new() };
-    for class in &missed {
-        println!("missed: {class}");
-    }
-    println!("{count} compared, {differ} differ");
-    if differ == 0 && missed.is_empty() {
-        ExitCode::SUCCESS
-    } else {
-        ExitCode::FAILURE
-    }
+    classes.0.print();
+    report(count, differ, classes.0.missed(), ALL_CLASSES)
 }
 
 fn compare_batches(count: u64, seed: u64) -> ExitCode {
     let (differ, missed) = batches::compare(count, seed);
-    let missed = if count >= ALL_BATCHES { missed } else { Vec::new() };
-    for class in &missed {
-        println!("missed: {class}");
-    }
-    println!("{count} compared, {differ} differ");
-    if differ == 0 && missed.is_empty() {
-        ExitCode::SUCCESS
-    } else {
-        ExitCode::FAILURE
-    }
+    report(count, differ, missed, ALL_BATCHES)
+}
+
+fn compare_audits(count: u64, seed: u64) -> ExitCode {
+    let (differ, missed) = audits::compare(count, seed);
+    report(count, differ, missed, ALL_AUDITS)
 }
 
 fn main() -> ExitCode {
     let args: Vec<String> = std::env::args().skip(1).collect();
     match args.iter().map(String::as_str).collect::<Vec<_>>().as_slice() {
         ["vectors", _, ..] => return hold_vectors(&args[1..]),
-        ["random", count, seed] => {
+        [what @ ("random" | "batches" | "audits"), count, seed] => {
             if let (Ok(count @ 1..), Ok(seed)) = (count.parse(), seed.parse()) {
-                return compare_random(count, seed);
-            }
-        }
-        ["batches", count, seed] => {
-            if let (Ok(count @ 1..), Ok(seed)) = (count.parse(), seed.parse()) {
-                return compare_batches(count, seed);
+                return match *what {
+                    "random" => compare_random(count, seed),
+                    "batches" => compare_batches(count, seed),
+                    _ => compare_audits(count, seed),
+                };
             }
         }
         _ => {}

@@ -1,6 +1,7 @@
 //! The proved functions on the walk's questions, and the walk's answers in their words.
+use crate::audit::{self, Lists, Verdict};
 use crate::walk::{Answer, Cacheability, Capture, Cause, Memory, Question, Refusal};
-pub use calls::{BatchWords, Words};
+pub use calls::{AuditWords, BatchWords, Words};
 
 fn shared(q: &Question) -> calls::Question {
     calls::Question {
@@ -32,6 +33,10 @@ pub fn ask(q: &Question, capture: Capture, log: &mut [u64]) -> Words {
 /// Asks of each address what the question asks of its own.
 pub fn batch(q: &Question, capture: Capture, addresses: &[u64], outputs: &mut [u64], numbers: &mut [u64]) -> BatchWords {
     calls::batch(&shared(q), of(capture), addresses, outputs, numbers)
+}
+
+pub fn audit(q: &Question, capture: Capture, lists: &Lists) -> AuditWords {
+    calls::audit(&shared(q), of(capture), &lists.grants, &lists.counts, &lists.tables, &lists.levels)
 }
 
 fn cacheability_code(cacheability: Cacheability) -> u64 {
@@ -78,6 +83,21 @@ impl From<Answer> for Words {
             Answer::Refused(Refusal::HighCapture) => Words { number: 11, ..none },
             Answer::Refused(Refusal::Settings(item)) => Words { number: 12, item, ..none },
             Answer::Refused(Refusal::Access) => Words { number: 13, ..none },
+        }
+    }
+}
+
+/// The same for the audit.
+impl From<&Verdict> for AuditWords {
+    fn from(verdict: &Verdict) -> AuditWords {
+        let none = AuditWords::default();
+        match verdict {
+            Verdict::Clean => none,
+            Verdict::Found(finding) => AuditWords { number: finding.number, address: finding.address, ..none },
+            Verdict::Refused(audit::Refusal::HighCapture) => AuditWords { number: 11, ..none },
+            Verdict::Refused(audit::Refusal::Settings(item)) => AuditWords { number: 12, item: *item, ..none },
+            Verdict::Refused(audit::Refusal::Lists) => AuditWords { number: 15, ..none },
+            Verdict::Refused(audit::Refusal::NoRoot) => AuditWords { number: 16, ..none },
         }
     }
 }

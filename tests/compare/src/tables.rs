@@ -1,7 +1,9 @@
 //! The memory that captures are taken from, and translation tables built in it, so that walks have descriptors to read.
 use crate::random::Random;
-use crate::walk::{bits, shift, Question, SIZES};
+use crate::walk::{bits, shift, Capture, Question, SIZES};
+use std::ops::Range;
 
+/// The length of an image for questions.
 pub const LENGTH: u64 = 0x40000;
 
 pub struct Image {
@@ -15,13 +17,17 @@ pub struct Image {
 }
 
 impl Image {
-    pub fn new() -> Image {
-        Image { base: 0, bytes: vec![0; LENGTH as usize], copy: vec![0; LENGTH as usize], written: Vec::new(), used: 0 }
+    pub fn new(length: u64) -> Image {
+        Image { base: 0, bytes: vec![0; length as usize], copy: vec![0; length as usize], written: Vec::new(), used: 0 }
+    }
+
+    pub fn length(&self) -> u64 {
+        self.bytes.len() as u64
     }
 
     fn offset(&self, address: u64) -> Option<usize> {
         let offset = address.checked_sub(self.base)?;
-        (offset <= LENGTH - 8).then_some(offset as usize)
+        (offset <= self.length() - 8).then_some(offset as usize)
     }
 
     /// The word at an address, 0 outside.
@@ -49,17 +55,60 @@ impl Image {
     }
 
     /// Room for a table of a power of two bytes, aligned to them. When all room is used, tables begin to overlap.
-    fn room(&mut self, random: &mut Random, size: u64) -> u64 {
+    pub fn room(&mut self, random: &mut Random, size: u64) -> u64 {
         if size < 4096 {
             return self.room(random, 4096) + random.below(4096 / size) * size;
         }
         let at = (self.used + size - 1) / size * size;
-        if at + size > LENGTH {
+        if at + size > self.length() {
             self.used = 0;
-            return self.base + random.below(LENGTH / size) * size;
+            return self.base + random.below(self.length() / size) * size;
         }
         self.used = at + size;
         self.base + at
+    }
+}
+
+/// The part of an image that a capture has, and the address that the capture gives to its first byte.
+pub struct Part {
+    pub range: Range<usize>,
+    pub base: u64,
+}
+
+impl Part {
+    pub fn whole(image: &Image) -> Part {
+        Part { range: 0..image.bytes.len(), base: image.base }
+    }
+
+    pub fn capture<'a>(&self, image: &'a Image) -> Capture<'a> {
+        Capture { base: self.base, bytes: &image.bytes[self.range.clone()] }
+    }
+
+    /// Cuts at an offset of the image, from either end.
+    pub fn cut(&mut self, random: &mut Random, image: &Image, at: u64) {
+        let at = at.min(image.length()) as usize;
+        if random.percent(50) {
+            self.range.end = at.max(self.range.start);
+        } else {
+            self.range.start = at.min(self.range.end);
+        }
+        self.base = image.base + self.range.start as u64;
+    }
+
+    /// Moves the capture so that its end is at 2^48, past it, or past 2^64. Some have few bytes or none.
+    pub fn move_away(&mut self, random: &mut Random) {
+        let length = random.pick(&[0, 1, 7, 8, 9, 4096, usize::MAX]).min(self.range.len());
+        self.range.end = self.range.start + length;
+        let length = length as u64;
+        self.base = match random.below(7) {
+            0 => (1 << 48) - length,
+            1 => (1 << 48) - length + 1,
+            2 => (1 << 48) - 1,
+            3 => (1 << 48) + random.below(2),
+            4 => u64::MAX - random.below(3),
+            5 => 0u64.wrapping_sub(length),
+            _ => random.word(),
+        };
     }
 }
 
@@ -112,7 +161,7 @@ fn leaf_type(level: u64) -> u64 {
 }
 
 /// The address bits of a block below its size are ignored: now and then they are not 0.
-fn ignored_address_bits(random: &mut Random, level: u64) -> u64 {
+pub fn ignored_address_bits(random: &mut Random, level: u64) -> u64 {
     if level < 3 && random.percent(10) {
         random.bits(shift(level) - 12) << 12
     } else {

@@ -1,6 +1,7 @@
-//! Questions and answers as lines of text: the format that the head of tests/vectors/model-4k.txt describes.
+//! Questions, audits and answers as lines of text: the format that the head of tests/vectors/model-4k.txt describes.
 //! Lines from an emulator, which have neither capture bounds nor a log and tell less of an answer, are read too.
-use crate::proved::Words;
+use crate::audit::Lists;
+use crate::proved::{AuditWords, Words};
 use crate::walk::{Capture, Question, FETCH};
 
 /// A line's question, its capture, and what it says of the answer.
@@ -132,6 +133,82 @@ pub fn question_text(q: &Question, capture: Capture, log_words: usize, addresses
         capture.base,
         capture.bytes.len(),
         words.collect::<String>()
+    )
+}
+
+/// A line's audit, its capture, and what it says of the answer.
+pub struct AuditLine {
+    pub question: Question,
+    pub base: u64,
+    pub bytes: Vec<u8>,
+    pub lists: Lists,
+    answer: String,
+}
+
+impl AuditLine {
+    /// Reads a line; nothing if it is malformed.
+    pub fn read(line: &str) -> Option<AuditLine> {
+        let parts: Vec<&str> = line.split('|').collect();
+        let split = |at: usize| parts.get(at).map(|part| part.split_whitespace().collect::<Vec<_>>());
+        let (fields, lists, answer) = (split(0)?, split(2)?, split(3)?.join(" "));
+        if parts.len() != 4 || fields.len() != 8 || fields[0] != "audit" || lists.len() != 4 {
+            return None;
+        }
+        let list = |at: usize, number: fn(&str) -> Option<u64>| -> Option<Vec<u64>> {
+            lists[at].split(',').filter(|text| *text != "-").map(number).collect()
+        };
+        let question = Question {
+            pamax: fields[1].parse().ok()?,
+            hcr_el2: hex(fields[2])?,
+            vtcr_el2: hex(fields[3])?,
+            vttbr_el2: hex(fields[4])?,
+            sctlr_el2: hex(fields[5])?,
+            ..Question::default()
+        };
+        let base = hex(fields[6])?;
+        let bytes = capture(base, hex(fields[7])? as usize, parts[1])?;
+        let levels = list(3, |text| text.parse().ok())?;
+        let lists = Lists { grants: list(0, hex)?, counts: list(1, hex)?, tables: list(2, hex)?, levels };
+        Some(AuditLine { question, base, bytes, lists, answer })
+    }
+
+    /// Whether an answer is what the line says.
+    pub fn agrees(&self, words: &AuditWords) -> bool {
+        self.answer == audit_answer_text(words)
+    }
+}
+
+/// An audit's answer as the vectors have it.
+pub fn audit_answer_text(w: &AuditWords) -> String {
+    match w.number {
+        0 => "clean".to_string(),
+        1..=4 => format!("finding {} {:x}", w.number, w.address),
+        12 => format!("refused 12 {}", w.item),
+        number => format!("refused {number}"),
+    }
+}
+
+/// An audit as a line of the vectors, with all words of its capture that are not zero.
+pub fn audit_text(q: &Question, capture: Capture, lists: &Lists) -> String {
+    let registers = log_text(&[q.hcr_el2, q.vtcr_el2, q.vttbr_el2, q.sctlr_el2]);
+    let offsets = (0..capture.bytes.len() as u64).skip(capture.base.wrapping_neg() as usize % 8).step_by(8);
+    let words = offsets.filter_map(|offset| {
+        let address = capture.base.checked_add(offset)?;
+        capture.descriptor(address).filter(|&word| word != 0).map(|word| format!(" {address:x}={word:x}"))
+    });
+    let list = |list: &[u64], number: fn(&u64) -> String| match list {
+        [] => " -".to_string(),
+        _ => format!(" {}", list.iter().map(number).collect::<Vec<_>>().join(",")),
+    };
+    let hexes = [&lists.grants, &lists.counts, &lists.tables].map(|numbers| list(numbers, |number| format!("{number:x}")));
+    format!(
+        "audit {} {registers} {:x} {:x} |{} |{}{}",
+        q.pamax,
+        capture.base,
+        capture.bytes.len(),
+        words.collect::<String>(),
+        hexes.concat(),
+        list(&lists.levels, u64::to_string)
     )
 }
 

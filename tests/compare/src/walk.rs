@@ -38,6 +38,11 @@ impl Capture<'_> {
         let eight = self.bytes.get(offset..)?.get(..8)?;
         Some(u64::from_le_bytes(eight.try_into().ok()?))
     }
+
+    /// Whether it is refused by answer 11. The sum is of unbounded numbers.
+    pub fn is_high(&self) -> bool {
+        u128::from(self.base) + self.bytes.len() as u128 > 1 << 48
+    }
 }
 
 /// In the order in which one beats the next when stages combine.
@@ -118,7 +123,7 @@ pub enum Answer {
     Refused(Refusal),
 }
 
-fn bit(word: u64, at: u64) -> bool {
+pub fn bit(word: u64, at: u64) -> bool {
     word >> at & 1 == 1
 }
 
@@ -142,12 +147,12 @@ fn stage1_on(q: &Question) -> bool {
     bit(q.sctlr_el1, 0) && !bit(q.hcr_el2, 12)
 }
 
-fn stage2_on(q: &Question) -> bool {
+pub fn stage2_on(q: &Question) -> bool {
     bit(q.hcr_el2, 0) || bit(q.hcr_el2, 12)
 }
 
 /// "Settings, first failing item reported".
-fn failing_item(q: &Question) -> Option<u64> {
+pub fn failing_item(q: &Question) -> Option<u64> {
     let (one, two) = (stage1_on(q), stage2_on(q));
     let (tcr, vtcr) = (q.tcr_el1, q.vtcr_el2);
     let listed = |size_field: u64| (16..=39).contains(&size_field);
@@ -170,7 +175,7 @@ fn refusal(q: &Question, capture: Capture, log_words: usize) -> Option<Refusal> 
     if log_words < 24 {
         return Some(Refusal::ShortLog);
     }
-    if u128::from(capture.base) + capture.bytes.len() as u128 > 1 << 48 {
+    if capture.is_high() {
         return Some(Refusal::HighCapture);
     }
     if let Some(item) = failing_item(q) {
@@ -289,11 +294,11 @@ fn combined(one: Attributes, two: Attributes) -> Attributes {
 }
 
 /// Where a stage's table walk starts, and the sizes that bound it.
-struct Start {
-    input_size: u64,
+pub struct Start {
+    pub input_size: u64,
     output_size: u64,
-    level: u64,
-    table: u64,
+    pub level: u64,
+    pub table: u64,
 }
 
 impl Start {
@@ -304,6 +309,21 @@ impl Start {
         }
         let low = 3 + input_size - shift(level);
         Ok(Start { input_size, output_size, level, table: bits(base_register, 47, low) << low })
+    }
+
+    /// Stage 2's, for an IPA.
+    pub fn stage2(q: &Question, ipa: u64) -> Result<Start, Cause> {
+        let vtcr = q.vtcr_el2;
+        let size = 64 - bits(vtcr, 5, 0);
+        let level = 2 - bits(vtcr, 7, 6) as i64;
+        if bits(ipa, 47, size) != 0 || level < 0 || level == 0 && q.pamax <= 42 {
+            return Err(Cause::Translation);
+        }
+        let size_check = size as i64 - ((3 - level) * 9 + 12);
+        if !(1..=13).contains(&size_check) {
+            return Err(Cause::Translation);
+        }
+        Start::new(q.vttbr_el2, size, SIZES[bits(vtcr, 18, 16) as usize], level as u64)
     }
 }
 
@@ -457,20 +477,6 @@ impl Walk<'_> {
         Ok(Output { address: bits(self.q.address, 47, 0), attributes: Attributes { memory, shareability }, level: 0 })
     }
 
-    fn stage2_start(&self, ipa: u64) -> Result<Start, Cause> {
-        let vtcr = self.q.vtcr_el2;
-        let size = 64 - bits(vtcr, 5, 0);
-        let level = 2 - bits(vtcr, 7, 6) as i64;
-        if bits(ipa, 47, size) != 0 || level < 0 || level == 0 && self.q.pamax <= 42 {
-            return Err(Cause::Translation);
-        }
-        let size_check = size as i64 - ((3 - level) * 9 + 12);
-        if !(1..=13).contains(&size_check) {
-            return Err(Cause::Translation);
-        }
-        Start::new(self.q.vttbr_el2, size, SIZES[bits(vtcr, 18, 16) as usize], level as u64)
-    }
-
     /// "Checks after each walk", for stage 2. An on-walk access is a read, whatever the access that it is made for.
     fn stage2_output(&self, leaf: &Leaf, on_walk: bool) -> Result<Output, Cause> {
         let (hcr, descriptor) = (self.q.hcr_el2, leaf.descriptor);
@@ -495,7 +501,7 @@ impl Walk<'_> {
 
     fn stage2(&mut self, ipa: u64, on_walk: bool) -> Result<Output, Stop> {
         let place = Place { stage: 2, on_walk, ipa };
-        let start = self.stage2_start(ipa).map_err(|cause| Stop { cause, place, level: 0 })?;
+        let start = Start::stage2(self.q, ipa).map_err(|cause| Stop { cause, place, level: 0 })?;
         let leaf = self.table_walk(&start, ipa, place)?;
         self.stage2_output(&leaf, on_walk).map_err(|cause| Stop { cause, place, level: leaf.level })
     }
