@@ -11,7 +11,7 @@ use Rattle.reads.specs.Program.{Request, Outcome, reached, stopped, run, reads,
 use Rattle.access.specs.declared.Access.{Access}
 use Rattle.reads.specs.declared.Read.{Read}
 use Rattle.reads.proofs.Holds.{OnOutcome, Holds, holds-reads, holds-run}
-use Rattle.capture.specs.Capture.{captured, SameBytes}
+use Rattle.capture.specs.Capture.{captured}
 use Rattle.answers.specs.Answers.{answer}
 use Rattle.answers.specs.declared.Refusal.{Refusal}
 use Rattle.walk.specs.declared.stop.Stop.{Stop}
@@ -35,7 +35,7 @@ use Rattle.bits.specs.Bits.{pick}
 use Rattle.answers.proofs.Refusals.{refuse-refused, refuse-accepted, by-refuse, holdsFor, isNoRoot, none-holds}
 use Rattle.lists.specs.Lists.{zip}
 use Rattle.audit.specs.Audit.{auditFrom, auditGrounds, auditOver, audit}
-use Rattle.audit.specs.Confinement.{InFrame, Audited, the-root, listed, InTables, ReadIn, MissingIn, AnswerIn, Confined, Confinement}
+use Rattle.audit.specs.Confinement.{InFrame, Audited, the-root, listed, InTables, ReadIn, MissingIn, AnswerIn, SameTables, Confined, Confinement}
 use Rattle.audit.specs.declared.AuditAnswer.{AuditAnswer}
 use Rattle.audit.specs.declared.AuditAnswer.the-variants.{Clean, Refused}
 use Rattle.audit.proofs.Frames.{GrantedLeaf, address-in-frame, descriptor-in-frame}
@@ -81,7 +81,7 @@ module _ (base : ℕ) (bytes bytes′ : List ℕ) (bounds : length bytes ≡ len
   m′ = captured base bytes′
 
   module _ (root : Table) (rooted : root2 r ≡ Usable root) (sane : Sane (Usable root)) (clean : auditFrom m grants tables (Usable root) ≡ Clean)
-      (same : (table size : ℕ) → Audited (root2 r) tables table size → SameBytes base bytes bytes′ table size) (on : stage2On r ≡ true) where
+      (same : SameTables base bytes bytes′ (root2 r) tables) (on : stage2On r ≡ true) where
     abbrev T : ℕ → ℕ → ℕ → Type 0
     T = Tables root tables
 
@@ -136,7 +136,7 @@ module _ (base : ℕ) (bytes bytes′ : List ℕ) (bounds : length bytes ≡ len
 
   -- a clean audit has a usable root
   by-root : (root : Root) → root2 r ≡ root → Sane root → auditFrom m grants tables root ≡ Clean →
-      ((table size : ℕ) → Audited (root2 r) tables table size → SameBytes base bytes bytes′ table size) → stage2On r ≡ true →
+      SameTables base bytes bytes′ (root2 r) tables → stage2On r ≡ true →
       (g : El1) (a : Access) (log : List ℕ) → Confined (root2 r) grants tables (ask base bytes′ r g a log)
   unfolding auditFrom
   by-root (Unusable kind level) e sane clean same on g a log = not-clean _ clean

@@ -20,7 +20,7 @@ use Rattle.answers.specs.Refusals.{refuse}
 use Rattle.lists.specs.Lists.{zip}
 use Rattle.lists.specs.Search.{isListed}
 use Rattle.audit.specs.Audit.{orElse, stage2Read, eachEntry, missing, examine, auditTable, auditListed, auditFrom, auditGrounds, auditOver, audit}
-use Rattle.audit.specs.Confinement.{Audited, the-root, listed}
+use Rattle.audit.specs.Confinement.{the-root, listed, SameTables}
 use Rattle.audit.specs.Dependence.{Dependence}
 use Rattle.audit.specs.declared.AuditAnswer.{AuditAnswer}
 use Rattle.audit.specs.declared.AuditAnswer.the-variants.{Refused}
@@ -75,7 +75,7 @@ module _ (base : ℕ) (bytes bytes′ : List ℕ) (bounds : length bytes ≡ len
       let at : table + (8 * i + k) ≡ table + 8 * i + k = omega arith in
       subst (λ z. getD bytes′ (z - base) 0 ≡ getD bytes (z - base) 0) at (same (8 * i + k) (omega arith) (omega arith) (omega arith))))
 
-  same-from : (grants tables : List (ℕ × ℕ)) (root : Root) → ((table size : ℕ) → Audited root tables table size → SameBytes base bytes bytes′ table size) →
+  same-from : (grants tables : List (ℕ × ℕ)) (root : Root) → SameTables base bytes bytes′ root tables →
       auditFrom (captured base bytes) grants tables root ≡ auditFrom (captured base bytes′) grants tables root
   unfolding auditFrom
   same-from grants tables (Unusable kind level) same = refl

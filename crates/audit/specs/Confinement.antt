@@ -68,9 +68,13 @@ pub record Confined (root : Root) (grants tables : List (ℕ × ℕ)) (t : Told)
   pub reads : All (λ q. ReadIn root grants tables (q .reader) (q .address)) (t .reads)
   pub answer : AnswerIn grants (t .answer)
 
+-- two captures have the same bytes in the audited tables
+abbrev pub SameTables : (base : ℕ) (bytes bytes′ : List ℕ) → Root → (tables : List (ℕ × ℕ)) → Type 0
+SameTables base bytes bytes′ root tables = (table size : ℕ) → Audited root tables table size → SameBytes base bytes bytes′ table size
+
 -- After a clean audit of one capture, every question over another with the same bounds and the same bytes in the audited tables is
 -- confined: PAMax and the EL2 registers are the audit's, the guest's registers, the access, the log and all other bytes are free.
 pub record Confinement (base : ℕ) (bytes bytes′ : List ℕ) (r : El2) (grants counts tables levels : List ℕ) : Type 0 where
   pub confined : audit base bytes r grants counts tables levels ≡ Clean → length bytes ≡ length bytes′ →
-      ((table size : ℕ) → Audited (root2 r) (zip tables levels) table size → SameBytes base bytes bytes′ table size) →
+      SameTables base bytes bytes′ (root2 r) (zip tables levels) →
       (g : El1) (a : Access) (log : List ℕ) → Confined (root2 r) (zip grants counts) (zip tables levels) (ask base bytes′ r g a log)
