@@ -1,4 +1,4 @@
-// Runs the cases of document 01 on the proved question and prints a line for each.
+// Runs the cases of document 01 on the proved question, batch and audit and prints a line for each.
 use access::Access;
 use registers::El1;
 use registers::El2;
@@ -7,6 +7,7 @@ use registers::sctlr::Sctlr;
 use registers::tcr::Tcr;
 use registers::vtcr::Vtcr;
 
+mod audits;
 mod image;
 mod print;
 
@@ -102,47 +103,78 @@ fn ask_concatenated() {
     );
 }
 
-// A log of 23 words.
-fn ask_short() {
+// Case A with eight bytes captured at a base, and a log of some length.
+fn ask_small(name: &[u8], base: u64, log: &mut [u64]) {
     let bytes = [0u8; 8];
-    let mut log = [7u64; 23];
-    print::text(b"log of 23 words: ");
+    print::text(name);
     let answer = question::translate(
         &bytes,
-        BASE,
+        base,
         el2(VTCR),
         el1(5, TCR),
         access(0x1008, 0, 0),
-        &mut log,
+        log,
     );
     print::answer(answer);
     print::text(b"\n");
 }
 
-// The ledger of two addresses, with the capture as it is or cut short.
+fn ask_short() {
+    let mut log = [7u64; 23];
+    ask_small(b"log of 23 words: ", BASE, &mut log);
+}
+
+fn ask_high() {
+    let mut log = [7u64; 24];
+    ask_small(
+        b"capture ending a byte past 2^48: ",
+        0xffff_ffff_fff9,
+        &mut log,
+    );
+}
+
+// A batch of two addresses and its ledger in a line.
+fn batch(name: &[u8], bytes: &[u8], outputs: &mut [u64], numbers: &mut [u64]) {
+    let addresses = [0x1008u64, 0x2000];
+    print::text(name);
+    let answer = batch::run(
+        bytes,
+        BASE,
+        el2(VTCR),
+        el1(5, TCR),
+        0,
+        0,
+        8,
+        &addresses,
+        outputs,
+        numbers,
+    );
+    print::batch(answer);
+    print::text(b"\n");
+}
+
+// The same with the capture as it is, or cut short.
 fn batch_first(name: &[u8], length: usize) {
     let mut bytes = [0u8; 0x8000];
     image::fill(&mut bytes);
-    let addresses = [0x1008u64, 0x2000];
     let mut outputs = [0u64; 2];
     let mut numbers = [0u64; 2];
     if length <= 0x8000 {
-        print::text(name);
-        let answer = batch::run(
-            &bytes[..length],
-            BASE,
-            el2(VTCR),
-            el1(5, TCR),
-            0,
-            0,
-            8,
-            &addresses,
-            &mut outputs,
-            &mut numbers,
-        );
-        print::batch(answer);
-        print::text(b"\n");
+        batch(name, &bytes[..length], &mut outputs, &mut numbers);
     }
+}
+
+// Refused before the capture is looked at: two addresses, one output.
+fn batch_short() {
+    let bytes = [0u8; 8];
+    let mut outputs = [0u64; 1];
+    let mut numbers = [0u64; 2];
+    batch(
+        b"batch of 0x1008 and 0x2000, a list of one output: ",
+        &bytes,
+        &mut outputs,
+        &mut numbers,
+    );
 }
 
 fn a_to_f() {
@@ -189,12 +221,15 @@ fn beyond() {
     ask_read_only();
     ask_concatenated();
     ask_short();
+    ask_high();
     batch_first(b"batch of 0x1008 and 0x2000: ", 0x8000);
     batch_first(b"the same, capture cut to 0x4000 bytes: ", 0x4000);
+    batch_short();
 }
 
 fn main() {
     a_to_f();
     g_to_l();
     beyond();
+    audits::all();
 }

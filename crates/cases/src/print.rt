@@ -6,6 +6,9 @@ use attributes::Cacheability;
 use attributes::DeviceType;
 use attributes::MemoryType;
 use attributes::Shareability;
+use audit::AuditAnswer;
+use audit::Finding;
+use audit::FindingKind;
 use batch::BatchAnswer;
 use descriptor::entry::FaultKind;
 use ledger::Ledger;
@@ -206,5 +209,30 @@ pub(crate) fn batch(a: BatchAnswer) {
     match a {
         BatchAnswer::Done(l) => ledger_line(l),
         BatchAnswer::Refused(r) => refused(r),
+    }
+}
+
+fn finding_kind(k: FindingKind) {
+    match k {
+        FindingKind::NotCaptured => text(b"finding 1, table not whole in the capture"),
+        FindingKind::TouchesGrant => text(b"finding 2, table touches a grant"),
+        FindingKind::UnlistedTable => text(
+            b"finding 3, next table not listed one level lower down",
+        ),
+        FindingKind::OutsideGrants => text(b"finding 4, leaf's range not inside one grant"),
+    }
+}
+
+fn finding(f: Finding) {
+    let k = f.kind;
+    finding_kind(k);
+    place(b": ", f.address);
+}
+
+pub(crate) fn audit(a: AuditAnswer) {
+    match a {
+        AuditAnswer::Clean => text(b"clean"),
+        AuditAnswer::Found(f) => finding(f),
+        AuditAnswer::Refused(r) => refused(r),
     }
 }

@@ -7,10 +7,10 @@ use lib.Seq.{length-take-le}
 use Rattle.cases.proofs.batch_first.Statement.{statement}
 use Rattle.cases.proofs.batch_first.Tie as tie
 
-slice-aggregate-run : tie.Need-slice-aggregate-run
-slice-aggregate-run c =
-    let f = c .before .before .before .before .fill in
-    sym (length-take-le _ (f .last .0) (omega (arith, f .kept .0, c .before .before .if1 .taken)))
+slice-aggregate-batch : tie.Need-slice-aggregate-batch
+slice-aggregate-batch c =
+    let f = c .before .before .before .fill in
+    sym (length-take-le _ (f .last .0) (omega (arith, f .kept .0, c .before .if1 .taken)))
 
 pub batch-first-spec : {M : Type 1} → statement M
 batch-first-spec =
@@ -18,16 +18,9 @@ batch-first-spec =
     (tie.spec
     (λ c. search needs)
     (λ c κs. search needs)
-    (λ c κs. search needs)
     (λ c. search needs)
-    slice-aggregate-run
-    (λ c κs. search needs)
-    (λ c κs. search needs)
+    slice-aggregate-batch
     (λ c. search needs)
-    (λ c. search needs)
-    (λ c. search needs)
-    (λ c κs. search needs)
-    (λ c κs. search needs)
     (λ c. search needs)
     (λ c κs. search needs)
     (λ c. search needs)
