@@ -1,11 +1,13 @@
-//! Measures the compiled proved walk against a straightforward walk in Rust.
+//! Measures the compiled proved walk and audit against straightforward ones in Rust.
 //!
 //!     bench [--quick] [--rounds N]
 //!
 //! All four ways (the proved batch and one in Rust, the proved question and one in Rust called for each address) must first give
-//! the same answers. Then they are timed in one run, and ratios of median times are printed. Status 1 if answers differ, 2 for wrong
-//! arguments.
+//! the same answers. Then they are timed in one run, and ratios of median times are printed. The same is done for the largest audits,
+//! the proved one and one in Rust. Status 1 if answers differ, 2 for wrong arguments.
 mod attributes;
+mod audit;
+mod audits;
 mod batch;
 mod check;
 mod decode;
@@ -19,6 +21,7 @@ mod tables;
 mod timing;
 mod workloads;
 
+use audit::{MOST_GRANTS, MOST_TABLES};
 use std::process::exit;
 use workloads::BATCH;
 
@@ -26,6 +29,9 @@ const SEED: u64 = 0x5eed;
 /// Enough that each way takes every batch thirty times, and what other programs do meanwhile evens out.
 const ROUNDS: usize = 600;
 const QUICK_ROUNDS: usize = 15;
+/// An audit has 128 times as many entries as a batch has addresses, so it takes one round in so many, and no fewer than the least.
+const AUDIT_EVERY: usize = 20;
+const LEAST_AUDITS: usize = 3;
 
 struct Arguments {
     quick: bool,
@@ -55,8 +61,7 @@ fn differ(name: &str, difference: String) -> ! {
     exit(1);
 }
 
-fn main() {
-    let Arguments { quick, rounds } = arguments();
+fn walks(quick: bool, rounds: usize) {
     refused::agree().unwrap_or_else(|difference| differ("refused questions", difference));
     println!("Ratios of median times of {rounds} interleaved rounds, batches of {BATCH} addresses. Above 1 the proved one is slower.");
     println!("Logs are not cleared between addresses. The last two columns are Rust here and now, and promise nothing.");
@@ -81,4 +86,24 @@ fn main() {
             medians.rust_question / BATCH as f64
         );
     }
+}
+
+fn audits(rounds: usize) {
+    println!("The largest audits, clean: {MOST_TABLES} tables, {MOST_GRANTS} grants, {} entries, {rounds} rounds.", audits::ALL_ENTRIES);
+    println!();
+    println!("| audit | proved audit / Rust audit | proved audit, ms | Rust audit, ms |");
+    println!("|---|---|---|---|");
+    for plan in audits::PLANS {
+        let audit = audits::build(&plan, SEED);
+        audits::agree(&audit).unwrap_or_else(|difference| differ(plan.name, difference));
+        let medians = audits::measure(&audit, rounds);
+        println!("| {} | {:.2} | {:.1} | {:.1} |", plan.name, medians.proved / medians.rust, medians.proved / 1e6, medians.rust / 1e6);
+    }
+}
+
+fn main() {
+    let Arguments { quick, rounds } = arguments();
+    walks(quick, rounds);
+    println!();
+    audits((rounds / AUDIT_EVERY).max(LEAST_AUDITS));
 }

@@ -1,4 +1,4 @@
-//! What the straightforward question is refused for.
+//! What the straightforward question and audit are refused for.
 use crate::decode::{bit, stage1_on, stage2_on};
 use crate::straight::LOG;
 use calls::{Capture, Question, Words};
@@ -18,7 +18,7 @@ fn listed_input(field: u64, granule: u64, wanted: u64) -> bool {
 }
 
 /// The first item of the settings that fails, or 0.
-fn item(q: &Question) -> u64 {
+pub fn item(q: &Question) -> u64 {
     let (one, two) = (stage1_on(q), stage2_on(q));
     let (tcr, vtcr) = (q.tcr_el1, q.vtcr_el2);
     if !matches!(q.pamax, 32 | 36 | 40 | 42 | 44 | 48) {
@@ -55,15 +55,19 @@ fn item(q: &Question) -> u64 {
     0
 }
 
+/// Whether a capture's end passes 2^48.
+pub fn ends_high(capture: Capture) -> bool {
+    capture.base.checked_add(capture.bytes.len() as u64).map_or(true, |end| end > 1 << 48)
+}
+
 /// The refusals of a question, in their order.
 pub fn refusal(q: &Question, capture: Capture, words: usize) -> Option<Words> {
     let refused = |number, item| Some(Words { number, item, ..Words::default() });
     if words < LOG {
         return refused(10, 0);
     }
-    match capture.base.checked_add(capture.bytes.len() as u64) {
-        Some(end) if end <= 1 << 48 => {}
-        _ => return refused(11, 0),
+    if ends_high(capture) {
+        return refused(11, 0);
     }
     match item(q) {
         0 => {}

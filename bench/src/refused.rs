@@ -4,7 +4,7 @@ use crate::straight::LOG;
 use calls::{Capture, Question};
 
 /// Both stages are on, and nothing is wrong (document 01, Cases).
-const ACCEPTED: Question = Question {
+pub const ACCEPTED: Question = Question {
     pamax: 40,
     hcr_el2: 0x8000_0001,
     vtcr_el2: 0x2_0059,

@@ -75,7 +75,7 @@ pub struct Walker<'a> {
 
 /// Bits 47 to 0.
 const ADDRESS: u64 = (1 << 48) - 1;
-const PAGE: u32 = 12;
+pub const PAGE: u32 = 12;
 const STRIDE: u32 = 9;
 /// The shift of level 0, which is also the level of what happens before any read.
 pub const TOP: u32 = PAGE + 3 * STRIDE;
@@ -83,6 +83,11 @@ pub const TOP: u32 = PAGE + 3 * STRIDE;
 /// The level whose index has this lowest bit.
 pub fn level(shift: u32) -> u64 {
     ((TOP - shift) / STRIDE) as u64
+}
+
+/// The lowest bit of a level's index.
+pub fn shift(level: u64) -> u32 {
+    TOP - STRIDE * level as u32
 }
 
 /// The tests of a descriptor, in their order.
@@ -111,7 +116,7 @@ fn step(descriptor: u64, shift: u32, root: &Root) -> Result<Step, Cause> {
 }
 
 /// A leaf's address above its size, the input's below.
-fn output(descriptor: u64, shift: u32, input: u64) -> u64 {
+pub fn output(descriptor: u64, shift: u32, input: u64) -> u64 {
     let low = (1 << shift) - 1;
     descriptor & ADDRESS & !low | input & low
 }

@@ -3,11 +3,11 @@ use crate::random::Random;
 
 /// The physical address of the capture's first byte.
 pub const BASE: u64 = 0x4000_0000;
-const PAGE: u64 = 4096;
+pub const PAGE: u64 = 4096;
 /// What a table descriptor adds to an address, and leaves of each stage that translate an EL0 read.
-const TABLE: u64 = 3;
+pub const TABLE: u64 = 3;
 const LEAF1: u64 = 0x743;
-const LEAF2: u64 = 0x7ff;
+pub const LEAF2: u64 = 0x7ff;
 /// Output pages lie anywhere under this physical address.
 const OUTPUTS: u64 = 1 << 38;
 

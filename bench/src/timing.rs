@@ -1,4 +1,4 @@
-//! Times of a workload's batches through all four ways, in interleaved rounds.
+//! Times in interleaved rounds: of a workload's batches through all four ways, and of whatever else has several ways.
 use crate::batch::Batch;
 use crate::one_by_one::one_by_one;
 use crate::question;
@@ -24,6 +24,28 @@ fn median(mut times: Vec<f64>) -> f64 {
     times[times.len() / 2]
 }
 
+pub fn nanoseconds(run: impl FnOnce()) -> f64 {
+    let start = Instant::now();
+    run();
+    start.elapsed().as_nanos() as f64
+}
+
+/// Each way's median of what `timed` says for a way and a round. The ways take turns in being first, and the rounds of the warm-up do
+/// not count.
+pub fn interleaved<const WAYS: usize>(warm_up: usize, rounds: usize, mut timed: impl FnMut(usize, usize) -> f64) -> [f64; WAYS] {
+    let mut times = [(); WAYS].map(|()| Vec::new());
+    for round in 0..warm_up + rounds {
+        for turn in 0..WAYS {
+            let way = (round + turn) % WAYS;
+            let time = timed(way, round);
+            if round >= warm_up {
+                times[way].push(time);
+            }
+        }
+    }
+    times.map(median)
+}
+
 /// Lists and log that all ways are lent.
 struct Lent {
     outputs: Vec<u64>,
@@ -35,33 +57,23 @@ struct Lent {
 fn timed(way: usize, workload: &Workload, addresses: &[u64], lent: &mut Lent) -> f64 {
     let (q, capture) = (&workload.question, workload.capture());
     let Lent { outputs, numbers, log } = lent;
-    let start = Instant::now();
-    match way {
+    nanoseconds(|| match way {
         0 => Batch::new(q, capture).run(addresses, outputs, numbers, log),
         1 => {
             calls::batch(q, capture, addresses, outputs, numbers);
         }
         2 => one_by_one(question::ask, q, capture, addresses, outputs, numbers, log),
         _ => one_by_one(calls::ask, q, capture, addresses, outputs, numbers, log),
-    }
-    start.elapsed().as_nanos() as f64
+    })
 }
 
-/// In each round every way takes a batch, in turning order. Each takes another batch, and takes all in turn, so that none finds in
-/// the caches what the one before it has just read.
+/// In each round every way takes a batch. Each takes another batch, and takes all in turn, so that none finds in the caches what the
+/// one before it has just read.
 pub fn measure(workload: &Workload, rounds: usize) -> Medians {
     let mut lent = Lent { outputs: vec![0; BATCH], numbers: vec![0; BATCH], log: [0; LOG] };
-    let mut times: [Vec<f64>; WAYS] = Default::default();
-    for round in 0..WARM_UP + rounds {
-        for turn in 0..WAYS {
-            let way = (round + turn) % WAYS;
-            let addresses = &workload.batches[(round + way * BATCHES / WAYS) % BATCHES];
-            let time = timed(way, workload, addresses, &mut lent);
-            if round >= WARM_UP {
-                times[way].push(time);
-            }
-        }
-    }
-    let [rust_batch, proved_batch, rust_question, proved_question] = times.map(median);
+    let [rust_batch, proved_batch, rust_question, proved_question] = interleaved::<WAYS>(WARM_UP, rounds, |way, round| {
+        let addresses = &workload.batches[(round + way * BATCHES / WAYS) % BATCHES];
+        timed(way, workload, addresses, &mut lent)
+    });
     Medians { rust_batch, proved_batch, rust_question, proved_question }
 }

@@ -1,0 +1,103 @@
+//! A straightforward audit in Rust, by document 01: what the proved audit is measured against. Every list is searched from its start.
+use crate::decode::second;
+use crate::refusals::{ends_high, item};
+use crate::straight::{level, output, shift, PAGE};
+use calls::{AuditWords, Capture, Question};
+
+/// Addresses and counts are multiples of this, and so many bytes has a listed table.
+const FRAME: u64 = 1 << PAGE;
+pub const MOST_GRANTS: usize = 256;
+pub const MOST_TABLES: usize = 1024;
+
+/// Grants by address and byte count, tables by address and level.
+#[derive(Clone)]
+pub struct Lists {
+    pub grants: Vec<u64>,
+    pub counts: Vec<u64>,
+    pub tables: Vec<u64>,
+    pub levels: Vec<u64>,
+}
+
+/// A finding's number and address.
+type Finding = (u64, u64);
+
+fn fits(address: u64, count: u64) -> bool {
+    address % FRAME == 0 && count % FRAME == 0 && count >= FRAME && address.checked_add(count).map_or(false, |end| end <= 1 << 48)
+}
+
+impl Lists {
+    fn are_well_formed(&self) -> bool {
+        let Lists { grants, counts, tables, levels } = self;
+        grants.len() == counts.len()
+            && grants.len() <= MOST_GRANTS
+            && tables.len() == levels.len()
+            && tables.len() <= MOST_TABLES
+            && grants.iter().zip(counts).all(|(grant, count)| fits(*grant, *count))
+            && tables.iter().zip(levels).all(|(table, level)| fits(*table, FRAME) && (1..=3).contains(level))
+            && (1..grants.len()).all(|n| grants[n - 1] + counts[n - 1] < grants[n])
+            && (1..tables.len()).all(|n| (tables[n - 1], levels[n - 1]) < (tables[n], levels[n]))
+    }
+
+    fn touches_grant(&self, start: u64, size: u64) -> bool {
+        let end = start + size;
+        self.grants.iter().zip(&self.counts).any(|(grant, count)| start < grant + count && *grant < end)
+    }
+
+    fn is_granted(&self, start: u64, size: u64) -> bool {
+        let end = start + size;
+        self.grants.iter().zip(&self.counts).any(|(grant, count)| *grant <= start && end <= grant + count)
+    }
+
+    fn is_listed(&self, address: u64, at: u64) -> bool {
+        self.tables.iter().zip(&self.levels).any(|(table, level)| *table == address && *level == at)
+    }
+
+    fn examine(&self, capture: Capture, table: u64, entries: u64, level: u64) -> Result<(), Finding> {
+        let (size, shift) = (8 * entries, shift(level));
+        let offset = table.wrapping_sub(capture.base) as usize;
+        let bytes = capture.bytes.get(offset..).and_then(|rest| rest.get(..size as usize)).ok_or((1, table))?;
+        if self.touches_grant(table, size) {
+            return Err((2, table));
+        }
+        for (n, eight) in bytes.chunks_exact(8).enumerate() {
+            let at = table + 8 * n as u64;
+            let descriptor = u64::from_le_bytes(eight.try_into().expect("eight bytes"));
+            let address = |low| output(descriptor, low, 0);
+            match (descriptor & 3, level) {
+                (3, 0..=2) if !self.is_listed(address(PAGE), level + 1) => return Err((3, at)),
+                (3, 3) | (1, 1 | 2) if !self.is_granted(address(shift), 1 << shift) => return Err((4, at)),
+                _ => {}
+            }
+        }
+        Ok(())
+    }
+}
+
+/// Audits by PAMax and the EL2 registers of a question, and answers in the words of the exported call.
+#[inline(never)]
+pub fn audit(q: &Question, capture: Capture, lists: &Lists) -> AuditWords {
+    let none = AuditWords::default();
+    if ends_high(capture) {
+        return AuditWords { number: 11, ..none };
+    }
+    // The audit's settings are those of a question with stage 1 off.
+    match item(&Question { sctlr_el1: 0, ..*q }) {
+        0 => {}
+        item => return AuditWords { number: 12, item, ..none },
+    }
+    if !lists.are_well_formed() {
+        return AuditWords { number: 15, ..none };
+    }
+    let root = match second(q).and_then(|stage2| stage2.root.ok()) {
+        Some(root) => root,
+        None => return AuditWords { number: 16, ..none },
+    };
+    let listed = || lists.tables.iter().zip(&lists.levels);
+    let examined = lists
+        .examine(capture, root.table, root.index + 1, level(root.shift))
+        .and_then(|()| listed().try_for_each(|(table, level)| lists.examine(capture, *table, FRAME / 8, *level)));
+    match examined {
+        Ok(()) => none,
+        Err((number, address)) => AuditWords { number, address, ..none },
+    }
+}
