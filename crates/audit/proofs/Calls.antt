@@ -1,15 +1,15 @@
 -- Answers one after the other: entries of a table, and listed tables.
 -- Assumes nothing.
 use mathlib.Core.Path.{_≡_, refl, sym, ap, _∙_}
-use mathlib.Core.Bool.{Bool, true, false, true≢false, false≢true, _&&_}
-use mathlib.Core.List.{List, [], _∷_}
+use mathlib.Core.Bool.{true, false, true≢false, false≢true, _&&_}
+use mathlib.Core.List.{List}
 use Prim.Native.Nat.{ℕ, zero, suc, _+_, _-_, _*_, _^_, _≤_, _<_}
 use native.Mathlib.Omega.{arith}
-use lib.Dec.{leb, eqb}
+use lib.Dec.{leb}
 use lib.ListN.{length, getD}
-use borrow.Author.Tests.{eqb-true, leb-true}
+use borrow.Author.Tests.{leb-true}
 use Rattle.bits.proofs.Tests.{and-left, and-right}
-use Rattle.lists.specs.Lists.{zip, all, ascends, grantFits, grantBefore, tableFits, tableBefore, wholeFrames, mostGrants, mostTables, grantsFormed, tablesFormed, wellFormed}
+use Rattle.lists.specs.Lists.{zip, tableFits, wholeFrames, grantsFormed, wellFormed}
 use Rattle.lists.specs.Search.{touches}
 use Rattle.lists.proofs.Pairs.{from, from-next, from-end}
 use Rattle.reads.specs.Program.{Request}
@@ -114,15 +114,7 @@ module _ (m : Request → Read) (g : Geometry) (grants : List (ℕ × ℕ)) (tab
   unfolding auditListed
   listing-over i over w = rw (from-end tables levels same i over) at w
 
--- well-formed lists may be searched
+-- what the audit tests is what its searches ask for
 pub formed : (grants counts tables levels : List ℕ) → wellFormed grants counts tables levels ≡ true → Formed grants counts tables levels
-unfolding wellFormed grantsFormed tablesFormed
-formed grants counts tables levels e =
-    let g = and-left (grantsFormed grants counts) _ e in
-    let t = and-right (grantsFormed grants counts) _ e in
-    record {
-      counted = sym (eqb-true _ _ (and-left _ _ (and-left (eqb (length grants) (length counts) && leb (length grants) mostGrants) _ (and-left _ _ g))));
-      granted = and-right (eqb (length grants) (length counts) && leb (length grants) mostGrants) _ (and-left _ _ g);
-      levelled = sym (eqb-true _ _ (and-left _ _ (and-left (eqb (length tables) (length levels) && leb (length tables) mostTables) _ (and-left _ _ t))));
-      listed = and-right (eqb (length tables) (length levels) && leb (length tables) mostTables) _ (and-left _ _ t);
-    }
+unfolding wellFormed
+formed grants counts tables levels e = record { granted = and-left (grantsFormed grants counts) _ e; listed = and-right (grantsFormed grants counts) _ e }

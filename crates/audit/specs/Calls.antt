@@ -4,23 +4,20 @@ use mathlib.Core.Path.{_≡_}
 use mathlib.Core.Bool.{Bool, true, false}
 use mathlib.Core.List.{List}
 use Prim.Native.Nat.{ℕ}
-use lib.ListN.{length}
 use Rattle.bits.specs.Bits.{pick}
 use Rattle.reads.specs.Program.{Request}
 use Rattle.reads.specs.declared.Read.{Read}
 use Rattle.descriptor.specs.declared.entry.Geometry.{Geometry}
-use Rattle.lists.specs.Lists.{zip, all, grantFits, tableFits}
+use Rattle.lists.specs.Lists.{grantsFormed, tablesFormed}
 use Rattle.audit.specs.Audit.{found, stage2Read, missing, examine}
 use Rattle.audit.specs.declared.FindingKind.{FindingKind}
 use Rattle.audit.specs.declared.AuditAnswer.{AuditAnswer}
 use Rattle.audit.specs.declared.AuditAnswer.the-variants.{Clean, Found, Refused}
 
--- lists of which each pair fits. Every well-formed list is one (proofs/Calls.antt).
+-- well-formed lists, each kind by itself, as a search asks for them
 pub record Formed (grants counts tables levels : List ℕ) : Type 0 where
-  pub counted : length counts ≡ length grants
-  pub granted : all grantFits (zip grants counts) ≡ true
-  pub levelled : length levels ≡ length tables
-  pub listed : all tableFits (zip tables levels) ≡ true
+  pub granted : grantsFormed grants counts ≡ true
+  pub listed : tablesFormed tables levels ≡ true
 
 unfoldable pub isClean : AuditAnswer → Bool
 isClean Clean = true

@@ -1,10 +1,10 @@
-// Searches of the audit's lists. Each says only whether there is what is looked for.
+// Searches of the audit's lists. Each says only whether there is what is looked for. That the lists ascend is asked for, though not
+// used: a search that halves a list needs it, and so can take the place of one of these and touch no caller.
 ghost use mathlib.Core.Path.{_≡_};
 ghost use mathlib.Core.Bool.{true, _&&_};
 ghost use Prim.Native.Nat.{_+_, _^_, _≤_, _<_};
 ghost use lib.Dec.{ltb, leb, eqb};
-ghost use lib.ListN.{length};
-ghost use Rattle.lists.specs.Lists.{zip, all, grantFits};
+ghost use Rattle.lists.specs.Lists.{zip, grantsFormed, tablesFormed};
 ghost use Rattle.lists.specs.Search as Search;
 
 // A grant has all bytes from an address up to an end.
@@ -31,7 +31,7 @@ fn is_at(listed: u64, at: u64, table: u64, level: u64) -> bool
 
 // n bytes from an address lie inside one grant.
 pub fn granted(grants: &[u64], counts: &[u64], address: u64, n: u64) -> bool
-    requires { ⌜ (length (now counts) ≡ length (now grants)) × (all grantFits (zip (now grants) (now counts)) ≡ true) × (address + n < 2 ^ 64) ⌝ }
+    requires { ⌜ (grantsFormed (now grants) (now counts) ≡ true) × (address + n < 2 ^ 64) ⌝ }
     ensures { λ r. ⌜ r ≡ Search.granted (zip (now (grants .entry)) (now (counts .entry))) address n ⌝ }
 {
     let end = address + n;
@@ -47,7 +47,7 @@ pub fn granted(grants: &[u64], counts: &[u64], address: u64, n: u64) -> bool
 
 // n bytes from an address share a byte with some grant.
 pub fn touches(grants: &[u64], counts: &[u64], address: u64, n: u64) -> bool
-    requires { ⌜ (length (now counts) ≡ length (now grants)) × (all grantFits (zip (now grants) (now counts)) ≡ true) × (address + n < 2 ^ 64) ⌝ }
+    requires { ⌜ (grantsFormed (now grants) (now counts) ≡ true) × (address + n < 2 ^ 64) ⌝ }
     ensures { λ r. ⌜ r ≡ Search.touches (zip (now (grants .entry)) (now (counts .entry))) address n ⌝ }
 {
     let end = address + n;
@@ -63,7 +63,7 @@ pub fn touches(grants: &[u64], counts: &[u64], address: u64, n: u64) -> bool
 
 // A table is listed at a level.
 pub fn is_listed(tables: &[u64], levels: &[u64], table: u64, level: u64) -> bool
-    requires { ⌜ length (now levels) ≡ length (now tables) ⌝ }
+    requires { ⌜ tablesFormed (now tables) (now levels) ≡ true ⌝ }
     ensures { λ r. ⌜ r ≡ Search.isListed (zip (now (tables .entry)) (now (levels .entry))) table level ⌝ }
 {
     let mut i = 0;

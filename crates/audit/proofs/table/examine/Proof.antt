@@ -1,7 +1,7 @@
 -- `examine` meets its contract, by the type of the descriptor.
 -- Assumes nothing.
 use borrow.Author.Needs.{needs}
-use Prim.Native.Nat.{_≤_, _<_, _^_}
+use Prim.Native.Nat.{_≤_, _^_}
 use native.Mathlib.Omega.{arith}
 use lib.Pow.{pow-mono}
 use Rattle.descriptor.specs.Entry.{shift}
@@ -17,7 +17,7 @@ granted-requires c κs =
     let t = shift (z .g) (z .n) in
     let low : t ≤ 47 = omega (arith, k .pre .2) in
     let small : 2 ^ t ≤ 2 ^ 47 = pow-mono low in
-    (k .pre .0 .counted, k .pre .0 .granted, rw (c .before .upper2 .ensures, c .two-to .ensures) (omega (arith, upper-small (z .x) t, small)))
+    (k .pre .0 .granted, rw (c .before .upper2 .ensures, c .two-to .ensures) (omega (arith, upper-small (z .x) t, small)))
 
 returns-3 : tie.Need-returns-3
 unfolding examineAs
@@ -35,7 +35,7 @@ examine-spec =
     (λ c. search needs)
     (λ c κs. tt)
     (λ c. search needs)
-    (λ c κs. c .before .before .before .before .before .before .before .before .pre .0 .levelled)
+    (λ c κs. c .before .before .before .before .before .before .before .before .pre .0 .listed)
     (λ c κs. tt)
     (λ c. search needs)
     (λ c. search needs)

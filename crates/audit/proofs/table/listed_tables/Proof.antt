@@ -4,12 +4,12 @@ use borrow.Author.Needs.{needs}
 use borrow.Author.Tests.{not-true, not-false}
 use mathlib.Core.Path.{refl, sym, _∙_}
 use Prim.Native.Nat.{_+_, _-_, _*_, _^_, _≤_}
-use native.Mathlib.Nat.{le-refl, mul-le-mul}
+use native.Mathlib.Nat.{mul-le-mul}
 use native.Mathlib.Omega.{arith}
 use lib.ListN.{length, getD}
 use Rattle.capture.specs.Capture.{captured}
-use Rattle.lists.specs.Lists.{zip, tableFits}
-use Rattle.lists.proofs.Pairs.{all-at}
+use Rattle.lists.specs.Lists.{zip}
+use Rattle.lists.proofs.Pairs.{tables-fit}
 use Rattle.audit.proofs.Calls.{table-bounds, Listing, listing-next, listing-found, listing-over}
 use Rattle.audit.proofs.table.listed_tables.Statement.{statement}
 use Rattle.audit.proofs.table.listed_tables.Tie as tie
@@ -25,9 +25,7 @@ bounds : (c : tie.In-loop Inv-loop μ-loop) →
     let z = c .before .before .before .before .before .before .before .args in
     let i = c .before .loop .i in
     (getD (z .tables .now) i 0 + 4096 ≤ 2 ^ 48) × (1 ≤ getD (z .levels .now) i 0) × (getD (z .levels .now) i 0 ≤ 3)
-bounds c =
-    let f = c .before .before .before .before .before .before .before .pre .0 in
-    table-bounds _ _ (all-at _ _ (f .levelled) tableFits (f .listed) _ (c .loop-test .taken))
+bounds c = table-bounds _ _ (tables-fit (c .before .before .before .before .before .before .before .pre .0 .listed) .fits _ (c .loop-test .taken))
 
 one-table-requires : tie.Need-one-table-requires Inv-loop μ-loop
 one-table-requires c κs =
@@ -46,7 +44,7 @@ listed-tables-spec =
     μ-loop
     (λ c. refl)
     (λ c. search needs)
-    (λ c. let f = c .before .before .before .before .before .before .before .before .pre .0 in omega (arith, c .before .loop-test .taken, f .levelled))
+    (λ c. let f = tables-fit (c .before .before .before .before .before .before .before .before .pre .0 .listed) in omega (arith, c .before .loop-test .taken, f .same))
     (λ c. bounds (c .before) .2)
     (λ c. search needs)
     (λ c. search needs)
@@ -55,15 +53,15 @@ listed-tables-spec =
     (λ c.
     let o = c .before .before in
     let l = o .before .before .before in
-    let f = l .before .before .before .before .before .before .before .pre .0 in
-    o .one-table .ensures ∙ listing-found _ _ _ _ _ (f .levelled) _ (l .loop-test .taken) (rw (← o .one-table .ensures) (sym (c .before .is-clean .ensures) ∙ not-true _ (c .if1 .taken))) (l .before .loop .inv))
+    let f = tables-fit (l .before .before .before .before .before .before .before .pre .0 .listed) in
+    o .one-table .ensures ∙ listing-found _ _ _ _ _ (f .same) _ (l .loop-test .taken) (rw (← o .one-table .ensures) (sym (c .before .is-clean .ensures) ∙ not-true _ (c .if1 .taken))) (l .before .loop .inv))
     (λ c. search needs)
     (λ c. search needs)
     (λ c.
     let o = c .before .before in
     let l = o .before .before .before in
-    let f = l .before .before .before .before .before .before .before .pre .0 in
-    listing-next _ _ _ _ _ (f .levelled) _ (l .loop-test .taken) (rw (← o .one-table .ensures) (sym (c .before .is-clean .ensures) ∙ not-false _ (c .if1 .left))) (l .before .loop .inv))
+    let f = tables-fit (l .before .before .before .before .before .before .before .pre .0 .listed) in
+    listing-next _ _ _ _ _ (f .same) _ (l .loop-test .taken) (rw (← o .one-table .ensures) (sym (c .before .is-clean .ensures) ∙ not-false _ (c .if1 .left))) (l .before .loop .inv))
     (λ c.
-    let f = c .before .before .before .before .before .before .before .pre .0 in
-    listing-over _ _ _ _ _ (f .levelled) _ (c .loop-test .left) (c .before .loop .inv)))
+    let f = tables-fit (c .before .before .before .before .before .before .before .pre .0 .listed) in
+    listing-over _ _ _ _ _ (f .same) _ (c .loop-test .left) (c .before .loop .inv)))

@@ -2,7 +2,7 @@
 -- Assumes nothing.
 use borrow.Author.Needs.{needs}
 use borrow.Author.Tests.{not-true, not-false}
-use mathlib.Core.Path.{_≡_, sym, ap, _∙_}
+use mathlib.Core.Path.{_≡_, sym, _∙_}
 use mathlib.Core.Bool.{true}
 use Prim.Native.Nat.{_+_, _*_, _^_, _≤_, _<_}
 use native.Mathlib.Omega.{arith}
@@ -41,7 +41,7 @@ one-table-spec =
     (λ c κs. search needs)
     returns
     (λ c. record { fits = omega (arith, ends (c .before .before .before)) })
-    (λ c κs. let k = c .before .before .before .before .before .before .before .before .before in (k .pre .0 .counted, k .pre .0 .granted, ends (c .before .before .before)))
+    (λ c κs. let k = c .before .before .before .before .before .before .before .before .before in (k .pre .0 .granted, ends (c .before .before .before)))
     (λ c κs. search needs)
     (λ c.
     let d = c .before .before .before in

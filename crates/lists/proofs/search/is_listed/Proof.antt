@@ -5,6 +5,7 @@ use mathlib.Core.Path.{refl, sym, _∙_}
 use Prim.Native.Nat.{_-_}
 use native.Mathlib.Omega.{arith}
 use lib.ListN.{length}
+use Rattle.lists.proofs.Pairs.{tables-fit}
 use Rattle.lists.proofs.Searches.{listedScan, Searching, search-next, search-found, search-over}
 use Rattle.lists.proofs.search.is_listed.Statement.{statement}
 use Rattle.lists.proofs.search.is_listed.Tie as tie
@@ -25,11 +26,11 @@ is-listed-spec =
     (λ c. refl)
     (λ c. search needs)
     (λ c. search needs)
-    (λ c. omega (arith, c .before .loop-test .taken, c .before .before .before .before .before .pre))
-    (λ c. omega (arith, c .before .before .loop-test .taken, c .before .before .before .before .before .before .pre))
+    (λ c. omega (arith, c .before .loop-test .taken, tables-fit (c .before .before .before .before .before .pre) .same))
+    (λ c. omega (arith, c .before .before .loop-test .taken, tables-fit (c .before .before .before .before .before .before .pre) .same))
     (λ c κs. search needs)
-    (λ c. search-found (listedScan _ _) _ _ (c .before .before .before .before .before .before .before .before .pre) _ (c .before .before .before .before .loop-test .taken) (sym (c .before .is-at .ensures) ∙ c .if1 .taken) (c .before .before .before .before .before .loop .inv))
+    (λ c. search-found (listedScan _ _) _ _ (tables-fit (c .before .before .before .before .before .before .before .before .pre) .same) _ (c .before .before .before .before .loop-test .taken) (sym (c .before .is-at .ensures) ∙ c .if1 .taken) (c .before .before .before .before .before .loop .inv))
     (λ c. search needs)
     (λ c. search needs)
-    (λ c. search-next (listedScan _ _) _ _ (c .before .before .before .before .before .before .before .before .pre) _ (c .before .before .before .before .loop-test .taken) (sym (c .before .is-at .ensures) ∙ c .if1 .left) (c .before .before .before .before .before .loop .inv))
-    (λ c. search-over (listedScan _ _) _ _ (c .before .before .before .before .pre) _ (c .loop-test .left) (c .before .loop .inv)))
+    (λ c. search-next (listedScan _ _) _ _ (tables-fit (c .before .before .before .before .before .before .before .before .pre) .same) _ (c .before .before .before .before .loop-test .taken) (sym (c .before .is-at .ensures) ∙ c .if1 .left) (c .before .before .before .before .before .loop .inv))
+    (λ c. search-over (listedScan _ _) _ _ (tables-fit (c .before .before .before .before .pre) .same) _ (c .loop-test .left) (c .before .loop .inv)))
