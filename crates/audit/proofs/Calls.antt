@@ -92,27 +92,28 @@ table-bounds table level e =
       leb-true level 3 (and-right (wholeFrames table && leb (table + 4096) (2 ^ 48) && leb 1 level) _ e),
     )
 
--- the tables from i on decide
-abbrev pub Listing : (Request → Read) → Geometry → (grants : List (ℕ × ℕ)) (tables levels : List ℕ) → ℕ → Type 0
-Listing m g grants tables levels i = auditListed m g grants (zip tables levels) (from tables levels i) ≡ auditListed m g grants (zip tables levels) (zip tables levels)
+-- the lists have one length, and the tables from i on decide
+pub record Listing (m : Request → Read) (g : Geometry) (grants : List (ℕ × ℕ)) (tables levels : List ℕ) (i : ℕ) : Type 0 where
+  pub same : length levels ≡ length tables
+  pub rest : auditListed m g grants (zip tables levels) (from tables levels i) ≡ auditListed m g grants (zip tables levels) (zip tables levels)
 
-module _ (m : Request → Read) (g : Geometry) (grants : List (ℕ × ℕ)) (tables levels : List ℕ) (same : length levels ≡ length tables) where
-  abbrev one : ℕ → AuditAnswer
-  one i = auditTable m g grants (zip tables levels) (3 - getD levels i 0) (g .stride) (getD tables i 0)
+module _ {m : Request → Read} {g : Geometry} {grants : List (ℕ × ℕ)} {tables levels : List ℕ} {i : ℕ} (w : Listing m g grants tables levels i) where
+  abbrev one : AuditAnswer
+  one = auditTable m g grants (zip tables levels) (3 - getD levels i 0) (g .stride) (getD tables i 0)
 
-  turn : (i : ℕ) → i < length tables → auditListed m g grants (zip tables levels) (from tables levels i) ≡ orElse (one i) (auditListed m g grants (zip tables levels) (from tables levels (i + 1)))
+  turn : i < length tables → orElse one (auditListed m g grants (zip tables levels) (from tables levels (i + 1))) ≡ auditListed m g grants (zip tables levels) (zip tables levels)
   unfolding auditListed
-  turn i less = rw (from-next tables levels same i less)
+  turn less = rw (from-next tables levels (w .same) i less) at (w .rest)
 
-  pub listing-next : (i : ℕ) → i < length tables → isClean (one i) ≡ true → Listing m g grants tables levels i → Listing m g grants tables levels (i + 1)
-  listing-next i less clean w = sym (turn i less ∙ or-clean (one i) _ clean) ∙ w
+  pub listing-next : i < length tables → isClean one ≡ true → Listing m g grants tables levels (i + 1)
+  listing-next less clean = record { same = w .same; rest = sym (or-clean one _ clean) ∙ turn less }
 
-  pub listing-found : (i : ℕ) → i < length tables → isClean (one i) ≡ false → Listing m g grants tables levels i → one i ≡ auditListed m g grants (zip tables levels) (zip tables levels)
-  listing-found i less dirty w = sym (turn i less ∙ or-found (one i) _ dirty) ∙ w
+  pub listing-found : i < length tables → isClean one ≡ false → one ≡ auditListed m g grants (zip tables levels) (zip tables levels)
+  listing-found less dirty = sym (or-found one _ dirty) ∙ turn less
 
-  pub listing-over : (i : ℕ) → length tables ≤ i → Listing m g grants tables levels i → Clean ≡ auditListed m g grants (zip tables levels) (zip tables levels)
+  pub listing-over : length tables ≤ i → Clean ≡ auditListed m g grants (zip tables levels) (zip tables levels)
   unfolding auditListed
-  listing-over i over w = rw (from-end tables levels same i over) at w
+  listing-over over = rw (from-end tables levels (w .same) i over) at (w .rest)
 
 -- what the audit tests is what its searches ask for
 pub formed : (grants counts tables levels : List ℕ) → wellFormed grants counts tables levels ≡ true → Formed grants counts tables levels

@@ -2,7 +2,7 @@
 -- Assumes nothing.
 use mathlib.Core.Path.{_≡_, refl, sym, _∙_}
 use mathlib.Core.Bool.{Bool, true, false, true≢false, false≢true, _&&_}
-use mathlib.Core.List.{List, [], _∷_}
+use mathlib.Core.List.{List}
 use Prim.Native.Nat.{ℕ, _+_, _≤_, _<_}
 use lib.ListN.{length}
 use Rattle.lists.specs.Lists.{zip, all, leads, ascends}
@@ -26,28 +26,37 @@ both-true false y z w p q = absurd (false≢true p)
 abbrev ordered : (ℕ × ℕ → Bool) → (ℕ × ℕ → ℕ × ℕ → Bool) → List (ℕ × ℕ) → Bool
 ordered f b l = all f l && ascends b l
 
--- the pairs from i on decide
-abbrev pub Deciding : (ℕ × ℕ → Bool) → (ℕ × ℕ → ℕ × ℕ → Bool) → List ℕ → List ℕ → ℕ → Type 0
-Deciding f b xs ys i = ordered f b (from xs ys i) ≡ ordered f b (zip xs ys)
+-- the lists have one length, and the pairs from i on decide
+pub record Deciding (f : ℕ × ℕ → Bool) (b : ℕ × ℕ → ℕ × ℕ → Bool) (xs ys : List ℕ) (i : ℕ) : Type 0 where
+  pub same : length ys ≡ length xs
+  pub rest : ordered f b (from xs ys i) ≡ ordered f b (zip xs ys)
 
-module _ (f : ℕ × ℕ → Bool) (b : ℕ × ℕ → ℕ × ℕ → Bool) (xs ys : List ℕ) (same : length ys ≡ length xs) where
-  step : (i : ℕ) → i < length xs → ordered f b (from xs ys i) ≡ ((f (at xs ys i) && all f (from xs ys (i + 1))) && (leads b (at xs ys i) (from xs ys (i + 1)) && ascends b (from xs ys (i + 1))))
+module _ {f : ℕ × ℕ → Bool} {b : ℕ × ℕ → ℕ × ℕ → Bool} {xs ys : List ℕ} {i : ℕ} (w : Deciding f b xs ys i) where
+  -- the pair at i, and those after it
+  abbrev here : ℕ × ℕ
+  here = at xs ys i
+
+  abbrev after : List (ℕ × ℕ)
+  after = from xs ys (i + 1)
+
+  step : i < length xs → ((f here && all f after) && (leads b here after && ascends b after)) ≡ ordered f b (zip xs ys)
   unfolding all ascends
-  step i less = rw (from-next xs ys same i less)
+  step less = rw (from-next xs ys (w .same) i less) at (w .rest)
 
-  pub unfit : (i : ℕ) → i < length xs → f (at xs ys i) ≡ false → Deciding f b xs ys i → false ≡ ordered f b (zip xs ys)
-  unfit i less e w = sym (step i less ∙ false-left (f (at xs ys i)) (all f (from xs ys (i + 1))) (leads b (at xs ys i) (from xs ys (i + 1))) (ascends b (from xs ys (i + 1))) e) ∙ w
+  pub unfit : i < length xs → f here ≡ false → false ≡ ordered f b (zip xs ys)
+  unfit less e = sym (false-left (f here) (all f after) (leads b here after) (ascends b after) e) ∙ step less
 
-  pub unled : (i : ℕ) → i < length xs → leads b (at xs ys i) (from xs ys (i + 1)) ≡ false → Deciding f b xs ys i → false ≡ ordered f b (zip xs ys)
-  unled i less e w = sym (step i less ∙ false-right (f (at xs ys i)) (all f (from xs ys (i + 1))) (leads b (at xs ys i) (from xs ys (i + 1))) (ascends b (from xs ys (i + 1))) e) ∙ w
+  pub unled : i < length xs → leads b here after ≡ false → false ≡ ordered f b (zip xs ys)
+  unled less e = sym (false-right (f here) (all f after) (leads b here after) (ascends b after) e) ∙ step less
 
-  pub goes-on : (i : ℕ) → i < length xs → f (at xs ys i) ≡ true → leads b (at xs ys i) (from xs ys (i + 1)) ≡ true → Deciding f b xs ys i → Deciding f b xs ys (i + 1)
-  goes-on i less p q w = sym (step i less ∙ both-true (f (at xs ys i)) (all f (from xs ys (i + 1))) (leads b (at xs ys i) (from xs ys (i + 1))) (ascends b (from xs ys (i + 1))) p q) ∙ w
+  pub goes-on : i < length xs → f here ≡ true → leads b here after ≡ true → Deciding f b xs ys (i + 1)
+  goes-on less p q = record { same = w .same; rest = sym (both-true (f here) (all f after) (leads b here after) (ascends b after) p q) ∙ step less }
 
-  pub all-ordered : (i : ℕ) → length xs ≤ i → Deciding f b xs ys i → true ≡ ordered f b (zip xs ys)
+  pub all-ordered : length xs ≤ i → true ≡ ordered f b (zip xs ys)
   unfolding all ascends
-  all-ordered i over w = rw (from-end xs ys same i over) at w
+  all-ordered over = rw (from-end xs ys (w .same) i over) at (w .rest)
 
+module _ (b : ℕ × ℕ → ℕ × ℕ → Bool) (xs ys : List ℕ) (same : length ys ≡ length xs) where
   -- an element before the one at j, or before none
   pub leads-next : (e : ℕ × ℕ) (j : ℕ) → j < length xs → b e (at xs ys j) ≡ leads b e (from xs ys j)
   unfolding leads

@@ -29,19 +29,20 @@ unfoldable pub listedScan : (table level : ℕ) → Scan
 unfolding isListed
 listedScan table level = record { search = λ l. isListed l table level; test = λ e. eqb (e .0) table && eqb (e .1) level; nowhere = refl; first = λ e l. refl }
 
--- the pairs from i on decide
-abbrev pub Searching : Scan → List ℕ → List ℕ → ℕ → Type 0
-Searching q xs ys i = q .search (from xs ys i) ≡ q .search (zip xs ys)
+-- the lists have one length, and the pairs from i on decide
+pub record Searching (q : Scan) (xs ys : List ℕ) (i : ℕ) : Type 0 where
+  pub same : length ys ≡ length xs
+  pub rest : q .search (from xs ys i) ≡ q .search (zip xs ys)
 
-module _ (q : Scan) (xs ys : List ℕ) (same : length ys ≡ length xs) where
-  step : (i : ℕ) → i < length xs → q .search (from xs ys i) ≡ (q .test (at xs ys i) || q .search (from xs ys (i + 1)))
-  step i less = rw (from-next xs ys same i less) (q .first _ _)
+module _ {q : Scan} {xs ys : List ℕ} {i : ℕ} (w : Searching q xs ys i) where
+  step : i < length xs → (q .test (at xs ys i) || q .search (from xs ys (i + 1))) ≡ q .search (zip xs ys)
+  step less = sym (rw (from-next xs ys (w .same) i less) (q .first _ _)) ∙ w .rest
 
-  pub search-next : (i : ℕ) → i < length xs → q .test (at xs ys i) ≡ false → Searching q xs ys i → Searching q xs ys (i + 1)
-  search-next i less e w = sym (rw e at (step i less)) ∙ w
+  pub search-next : i < length xs → q .test (at xs ys i) ≡ false → Searching q xs ys (i + 1)
+  search-next less e = record { same = w .same; rest = rw e at (step less) }
 
-  pub search-found : (i : ℕ) → i < length xs → q .test (at xs ys i) ≡ true → Searching q xs ys i → true ≡ q .search (zip xs ys)
-  search-found i less e w = sym (rw e at (step i less)) ∙ w
+  pub search-found : i < length xs → q .test (at xs ys i) ≡ true → true ≡ q .search (zip xs ys)
+  search-found less e = rw e at (step less)
 
-  pub search-over : (i : ℕ) → length xs ≤ i → Searching q xs ys i → false ≡ q .search (zip xs ys)
-  search-over i over w = sym (rw (from-end xs ys same i over) (q .nowhere)) ∙ w
+  pub search-over : length xs ≤ i → false ≡ q .search (zip xs ys)
+  search-over over = sym (rw (from-end xs ys (w .same) i over) (q .nowhere)) ∙ w .rest

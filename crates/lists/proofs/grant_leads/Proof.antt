@@ -1,7 +1,7 @@
 -- `grant_leads` meets its contract: the next pair, if there is one, is the first of those after it.
 -- Assumes nothing.
 use borrow.Author.Needs.{needs}
-use Rattle.lists.specs.Lists.{grantFits, grantBefore}
+use Rattle.lists.specs.Lists.{grantBefore}
 use Rattle.lists.proofs.Orders.{leads-next, leads-none}
 use Rattle.lists.proofs.grant_leads.Statement.{statement}
 use Rattle.lists.proofs.grant_leads.Tie as tie
@@ -12,5 +12,5 @@ grant-leads-spec =
     tie.close
     (tie.spec
     (λ c. search needs) (λ c. search needs) (λ c. search needs) (λ c. search needs) (λ c. search needs) (λ c. search needs) (λ c. search needs) (λ c. search needs)
-    (λ c. let k = c .before .before .before in leads-next grantFits grantBefore _ _ (k .before .pre .1) _ _ (k .if1 .taken))
-    (λ c. leads-none grantFits grantBefore _ _ (c .before .pre .1) _ _ (c .if1 .left)))
+    (λ c. let k = c .before .before .before in leads-next grantBefore _ _ (k .before .pre .1) _ _ (k .if1 .taken))
+    (λ c. leads-none grantBefore _ _ (c .before .pre .1) _ _ (c .if1 .left)))

@@ -4,7 +4,6 @@ use borrow.Author.Needs.{needs}
 use borrow.Author.Tests.{not-true, not-false}
 use mathlib.Core.Path.{refl, sym, _∙_}
 use Prim.Native.Nat.{_-_}
-use native.Mathlib.Omega.{arith}
 use lib.ListN.{length}
 use Rattle.lists.specs.Lists.{grantFits, grantBefore}
 use Rattle.lists.proofs.Pairs.{grant-ends}
@@ -24,25 +23,21 @@ grants-ascend-spec =
     (tie.spec
     Inv-loop
     μ-loop
-    (λ c. refl)
+    (λ c. record { same = search needs; rest = refl })
     (λ c. search needs)
     (λ c. search needs)
-    (λ c. omega (arith, c .before .loop-test .taken, c .before .before .before .before .before .pre))
-    (λ c. omega (arith, c .before .before .loop-test .taken, c .before .before .before .before .before .before .pre))
+    (λ c. search needs)
+    (λ c. search needs)
     (λ c κs. search needs)
-    (λ c.
-    let l = c .before .before .before .before in
-    unfit grantFits grantBefore _ _ (l .before .before .before .before .pre) _ (l .loop-test .taken) (sym (c .before .grant-fits .ensures) ∙ not-true _ (c .if1 .taken)) (l .before .loop .inv))
-    (λ c κs.
-    let l = c .before .before .before .before in
-    (l .loop-test .taken, l .before .before .before .before .pre, grant-ends _ _ (sym (c .before .grant-fits .ensures) ∙ not-false _ (c .if1 .left))))
+    (λ c. let l = c .before .before .before .before in unfit (l .before .loop .inv) (l .loop-test .taken) (sym (c .before .grant-fits .ensures) ∙ not-true _ (c .if1 .taken)))
+    (λ c κs. (search needs, search needs, grant-ends _ _ (sym (c .before .grant-fits .ensures) ∙ not-false _ (c .if1 .left))))
     (λ c.
     let l = c .before .before .before .before .before .before in
-    unled grantFits grantBefore _ _ (l .before .before .before .before .pre) _ (l .loop-test .taken) (sym (c .before .grant-leads .ensures) ∙ not-true _ (c .if2 .taken)) (l .before .loop .inv))
+    unled (l .before .loop .inv) (l .loop-test .taken) (sym (c .before .grant-leads .ensures) ∙ not-true _ (c .if2 .taken)))
     (λ c. search needs)
     (λ c. search needs)
     (λ c.
     let k = c .before .before .before in
     let l = k .before .before .before in
-    goes-on grantFits grantBefore _ _ (l .before .before .before .before .pre) _ (l .loop-test .taken) (sym (k .grant-fits .ensures) ∙ not-false _ (c .before .before .if1 .left)) (sym (c .before .grant-leads .ensures) ∙ not-false _ (c .if2 .left)) (l .before .loop .inv))
-    (λ c. all-ordered grantFits grantBefore _ _ (c .before .before .before .before .pre) _ (c .loop-test .left) (c .before .loop .inv)))
+    goes-on (l .before .loop .inv) (l .loop-test .taken) (sym (k .grant-fits .ensures) ∙ not-false _ (c .before .before .if1 .left)) (sym (c .before .grant-leads .ensures) ∙ not-false _ (c .if2 .left)))
+    (λ c. all-ordered (c .before .loop .inv) (c .loop-test .left)))

@@ -1,7 +1,7 @@
 -- `table_leads` meets its contract: the next pair, if there is one, is the first of those after it.
 -- Assumes nothing.
 use borrow.Author.Needs.{needs}
-use Rattle.lists.specs.Lists.{tableFits, tableBefore}
+use Rattle.lists.specs.Lists.{tableBefore}
 use Rattle.lists.proofs.Orders.{leads-next, leads-none}
 use Rattle.lists.proofs.table_leads.Statement.{statement}
 use Rattle.lists.proofs.table_leads.Tie as tie
@@ -12,5 +12,5 @@ table-leads-spec =
     tie.close
     (tie.spec
     (λ c. search needs) (λ c. search needs) (λ c. search needs) (λ c. search needs) (λ c. search needs) (λ c. search needs) (λ c. search needs) (λ c. search needs) (λ c. search needs) (λ c. search needs) (λ c. search needs) (λ c. search needs) (λ c. search needs)
-    (λ c. let k = c .before .before .before .before .before .before in leads-next tableFits tableBefore _ _ (k .before .pre .1) _ _ (k .if1 .taken))
-    (λ c. leads-none tableFits tableBefore _ _ (c .before .pre .1) _ _ (c .if1 .left)))
+    (λ c. let k = c .before .before .before .before .before .before in leads-next tableBefore _ _ (k .before .pre .1) _ _ (k .if1 .taken))
+    (λ c. leads-none tableBefore _ _ (c .before .pre .1) _ _ (c .if1 .left)))

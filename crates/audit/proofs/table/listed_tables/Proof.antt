@@ -42,9 +42,9 @@ listed-tables-spec =
     (tie.spec
     Inv-loop
     μ-loop
-    (λ c. refl)
+    (λ c. record { same = tables-fit (c .before .before .before .before .before .pre .0 .listed) .same; rest = refl })
     (λ c. search needs)
-    (λ c. let f = tables-fit (c .before .before .before .before .before .before .before .before .pre .0 .listed) in omega (arith, c .before .loop-test .taken, f .same))
+    (λ c. search needs)
     (λ c. bounds (c .before) .2)
     (λ c. search needs)
     (λ c. search needs)
@@ -53,15 +53,11 @@ listed-tables-spec =
     (λ c.
     let o = c .before .before in
     let l = o .before .before .before in
-    let f = tables-fit (l .before .before .before .before .before .before .before .pre .0 .listed) in
-    o .one-table .ensures ∙ listing-found _ _ _ _ _ (f .same) _ (l .loop-test .taken) (rw (← o .one-table .ensures) (sym (c .before .is-clean .ensures) ∙ not-true _ (c .if1 .taken))) (l .before .loop .inv))
+    o .one-table .ensures ∙ listing-found (l .before .loop .inv) (l .loop-test .taken) (rw (← o .one-table .ensures) (sym (c .before .is-clean .ensures) ∙ not-true _ (c .if1 .taken))))
     (λ c. search needs)
     (λ c. search needs)
     (λ c.
     let o = c .before .before in
     let l = o .before .before .before in
-    let f = tables-fit (l .before .before .before .before .before .before .before .pre .0 .listed) in
-    listing-next _ _ _ _ _ (f .same) _ (l .loop-test .taken) (rw (← o .one-table .ensures) (sym (c .before .is-clean .ensures) ∙ not-false _ (c .if1 .left))) (l .before .loop .inv))
-    (λ c.
-    let f = tables-fit (c .before .before .before .before .before .before .before .pre .0 .listed) in
-    listing-over _ _ _ _ _ (f .same) _ (c .loop-test .left) (c .before .loop .inv)))
+    listing-next (l .before .loop .inv) (l .loop-test .taken) (rw (← o .one-table .ensures) (sym (c .before .is-clean .ensures) ∙ not-false _ (c .if1 .left))))
+    (λ c. listing-over (c .before .loop .inv) (c .loop-test .left)))

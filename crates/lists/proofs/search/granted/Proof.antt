@@ -3,7 +3,6 @@
 use borrow.Author.Needs.{needs}
 use mathlib.Core.Path.{refl, sym, _∙_}
 use Prim.Native.Nat.{_-_}
-use native.Mathlib.Omega.{arith}
 use lib.ListN.{length}
 use Rattle.lists.proofs.Pairs.{grant-ends, grants-fit}
 use Rattle.lists.proofs.Searches.{grantedScan, Searching, search-next, search-found, search-over}
@@ -16,11 +15,6 @@ Inv-loop grants counts address n end i₀ i = Searching (grantedScan address n) 
 abbrev μ-loop : tie.MeasureT-loop
 μ-loop grants counts address n end i₀ i = length grants - i
 
-surrounds-requires : tie.Need-surrounds-requires Inv-loop μ-loop
-surrounds-requires c κs =
-    let p = c .before .before .before .before .before .before .pre in
-    grant-ends _ _ (grants-fit (p .0) .fits _ (c .before .before .loop-test .taken))
-
 pub granted-spec : {M : Type 1} → statement M
 unfolding grantedScan
 granted-spec =
@@ -29,14 +23,14 @@ granted-spec =
     Inv-loop
     μ-loop
     (λ c. search needs)
-    (λ c. refl)
+    (λ c. record { same = grants-fit (c .before .before .pre .0) .same; rest = refl })
     (λ c. search needs)
     (λ c. search needs)
-    (λ c. omega (arith, c .before .loop-test .taken, grants-fit (c .before .before .before .before .before .pre .0) .same))
-    (λ c. omega (arith, c .before .before .loop-test .taken, grants-fit (c .before .before .before .before .before .before .pre .0) .same))
-    surrounds-requires
-    (λ c. search-found (grantedScan _ _) _ _ (grants-fit (c .before .before .before .before .before .before .before .before .pre .0) .same) _ (c .before .before .before .before .loop-test .taken) (sym (c .before .surrounds .ensures) ∙ c .if1 .taken) (c .before .before .before .before .before .loop .inv))
     (λ c. search needs)
     (λ c. search needs)
-    (λ c. search-next (grantedScan _ _) _ _ (grants-fit (c .before .before .before .before .before .before .before .before .pre .0) .same) _ (c .before .before .before .before .loop-test .taken) (sym (c .before .surrounds .ensures) ∙ c .if1 .left) (c .before .before .before .before .before .loop .inv))
-    (λ c. search-over (grantedScan _ _) _ _ (grants-fit (c .before .before .before .before .pre .0) .same) _ (c .loop-test .left) (c .before .loop .inv)))
+    (λ c κs. grant-ends _ _ (grants-fit (c .before .before .before .before .before .before .pre .0) .fits _ (c .before .before .loop-test .taken)))
+    (λ c. let l = c .before .before .before .before in search-found (l .before .loop .inv) (l .loop-test .taken) (sym (c .before .surrounds .ensures) ∙ c .if1 .taken))
+    (λ c. search needs)
+    (λ c. search needs)
+    (λ c. let l = c .before .before .before .before in search-next (l .before .loop .inv) (l .loop-test .taken) (sym (c .before .surrounds .ensures) ∙ c .if1 .left))
+    (λ c. search-over (c .before .loop .inv) (c .loop-test .left)))

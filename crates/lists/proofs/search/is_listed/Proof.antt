@@ -3,7 +3,6 @@
 use borrow.Author.Needs.{needs}
 use mathlib.Core.Path.{refl, sym, _∙_}
 use Prim.Native.Nat.{_-_}
-use native.Mathlib.Omega.{arith}
 use lib.ListN.{length}
 use Rattle.lists.proofs.Pairs.{tables-fit}
 use Rattle.lists.proofs.Searches.{listedScan, Searching, search-next, search-found, search-over}
@@ -23,14 +22,14 @@ is-listed-spec =
     (tie.spec
     Inv-loop
     μ-loop
-    (λ c. refl)
+    (λ c. record { same = tables-fit (c .before .before .pre) .same; rest = refl })
     (λ c. search needs)
     (λ c. search needs)
-    (λ c. omega (arith, c .before .loop-test .taken, tables-fit (c .before .before .before .before .before .pre) .same))
-    (λ c. omega (arith, c .before .before .loop-test .taken, tables-fit (c .before .before .before .before .before .before .pre) .same))
+    (λ c. search needs)
+    (λ c. search needs)
     (λ c κs. search needs)
-    (λ c. search-found (listedScan _ _) _ _ (tables-fit (c .before .before .before .before .before .before .before .before .pre) .same) _ (c .before .before .before .before .loop-test .taken) (sym (c .before .is-at .ensures) ∙ c .if1 .taken) (c .before .before .before .before .before .loop .inv))
+    (λ c. let l = c .before .before .before .before in search-found (l .before .loop .inv) (l .loop-test .taken) (sym (c .before .is-at .ensures) ∙ c .if1 .taken))
     (λ c. search needs)
     (λ c. search needs)
-    (λ c. search-next (listedScan _ _) _ _ (tables-fit (c .before .before .before .before .before .before .before .before .pre) .same) _ (c .before .before .before .before .loop-test .taken) (sym (c .before .is-at .ensures) ∙ c .if1 .left) (c .before .before .before .before .before .loop .inv))
-    (λ c. search-over (listedScan _ _) _ _ (tables-fit (c .before .before .before .before .pre) .same) _ (c .loop-test .left) (c .before .loop .inv)))
+    (λ c. let l = c .before .before .before .before in search-next (l .before .loop .inv) (l .loop-test .taken) (sym (c .before .is-at .ensures) ∙ c .if1 .left))
+    (λ c. search-over (c .before .loop .inv) (c .loop-test .left)))
