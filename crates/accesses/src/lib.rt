@@ -65,7 +65,7 @@ pub fn each(
         by: By::First,
         end: end::stopped(Ending::Unsettled, 0, 0),
         ipa: 0,
-        level1: 0,
+        left1: 0,
         word1: 0,
     };
     let mut i = 0;

@@ -36,7 +36,7 @@ use Rattle.walk.proofs.Ends.{outcome-passed, outcome-stopped, over-stops, ran-g
 use Rattle.walk.proofs.Turns.{leafAt, req, Walking, walking-stopped, walking-absent, walking-leaf, walking-over, walking-down}
 use Rattle.stages.specs.Stage1.{place1, root1At, uncached1, denied1, check1, translate1}
 use Rattle.stages.specs.Stages.{finish, access}
-use Rattle.stages.specs.Calls.{finishedAt, outputOf, stageBy, arrived, atFirst, ending1, Seconded}
+use Rattle.stages.specs.Calls.{finishedAt, outputOf, leafLevel, stageBy, arrived, atFirst, ending1, Seconded}
 use Rattle.stages.specs.declared.stage1.Stage1.{Stage1}
 use Rattle.stages.specs.declared.both.Translation.{Translation}
 use Rattle.stages.specs.declared.both.By.{By}
@@ -101,50 +101,50 @@ module _ (m : Request → Read) (s1 : Stage1) (s2 : Stage2) (a : Access) where
     -- an end at stage 1 that did not pass
     pub first-stopped : (e : End) → passed (e .ending) ≡ false → Ran m (access s1 s2 a) log k (stopped (stopBy One (e .address) (e .level) (e .ending))) end l → Ran m (access s1 s2 a) log k (arrived s1 s2 a (atFirst e)) end l
     unfolding arrived stageBy
-    first-stopped e p r = rw (outcome-stopped {A = Translation} One (finishedAt s2 a (outputOf s1 a 0 0 0) e) e p) r
+    first-stopped e p r = rw (outcome-stopped {A = Translation} One (finishedAt s2 a (outputOf s1 a 0 (leafLevel s1 0) 0) e) e p) r
 
 -- where an access stands: at an entry of stage 1's walk, or at stage 1's output
-pub data Going (m : Request → Read) (s1 : Stage1) (s2 : Stage2) (a : Access) (g : Geometry) (log₀ log : List ℕ) (walking : Bool) (left t ipa tables level1 word1 k : ℕ) : Type 0 where
+pub data Going (m : Request → Read) (s1 : Stage1) (s2 : Stage2) (a : Access) (g : Geometry) (log₀ log : List ℕ) (walking : Bool) (left t ipa tables word1 k : ℕ) : Type 0 where
   walks : walking ≡ true → s1 .on ≡ true → Walking m (place1 s2 a) g One (a .address) (whole m s1 s2 a) log₀ 0 log k left t ipa (imposed tables) → k + 5 * suc left ≤ 20 →
-      Going m s1 s2 a g log₀ log walking left t ipa tables level1 word1 k
-  ends : walking ≡ false → Ran m (translate1 s1 (root1At s1 (a .address)) s2 a) log₀ 0 (reached (outputOf s1 a ipa level1 word1)) k log → k ≤ 20 →
-      Going m s1 s2 a g log₀ log walking left t ipa tables level1 word1 k
+      Going m s1 s2 a g log₀ log walking left t ipa tables word1 k
+  ends : walking ≡ false → Ran m (translate1 s1 (root1At s1 (a .address)) s2 a) log₀ 0 (reached (outputOf s1 a ipa (leafLevel s1 left) word1)) k log → k ≤ 20 →
+      Going m s1 s2 a g log₀ log walking left t ipa tables word1 k
 
-module _ {m : Request → Read} {s1 : Stage1} {s2 : Stage2} {a : Access} {g : Geometry} {log₀ log : List ℕ} {walking : Bool} {left t ipa tables level1 word1 k : ℕ} where
-  at-entry : Going m s1 s2 a g log₀ log walking left t ipa tables level1 word1 k → walking ≡ true →
+module _ {m : Request → Read} {s1 : Stage1} {s2 : Stage2} {a : Access} {g : Geometry} {log₀ log : List ℕ} {walking : Bool} {left t ipa tables word1 k : ℕ} where
+  at-entry : Going m s1 s2 a g log₀ log walking left t ipa tables word1 k → walking ≡ true →
       (s1 .on ≡ true) × Walking m (place1 s2 a) g One (a .address) (whole m s1 s2 a) log₀ 0 log k left t ipa (imposed tables) × (k + 5 * suc left ≤ 20)
   at-entry (walks w on i few) e = (on, i, few)
   at-entry (ends w r few) e = absurd (true≢false (sym e ∙ w))
 
-  at-output : Going m s1 s2 a g log₀ log walking left t ipa tables level1 word1 k → walking ≡ false →
-      Ran m (translate1 s1 (root1At s1 (a .address)) s2 a) log₀ 0 (reached (outputOf s1 a ipa level1 word1)) k log
+  at-output : Going m s1 s2 a g log₀ log walking left t ipa tables word1 k → walking ≡ false →
+      Ran m (translate1 s1 (root1At s1 (a .address)) s2 a) log₀ 0 (reached (outputOf s1 a ipa (leafLevel s1 left) word1)) k log
   at-output (walks w on i few) e = absurd (true≢false (sym w ∙ e))
   at-output (ends w r few) e = r
 
-  pub going-on : Going m s1 s2 a g log₀ log walking left t ipa tables level1 word1 k → walking ≡ true → s1 .on ≡ true
+  pub going-on : Going m s1 s2 a g log₀ log walking left t ipa tables word1 k → walking ≡ true → s1 .on ≡ true
   going-on now e = at-entry now e .0
 
-  pub going-entry : Going m s1 s2 a g log₀ log walking left t ipa tables level1 word1 k → walking ≡ true → (left ≤ 3) × (t ≡ shift g left) × (t < 48) × (k + 5 * suc left ≤ 20)
+  pub going-entry : Going m s1 s2 a g log₀ log walking left t ipa tables word1 k → walking ≡ true → (left ≤ 3) × (t ≡ shift g left) × (t < 48) × (k + 5 * suc left ≤ 20)
   going-entry now e = let i = at-entry now e in (i .1 .few, i .1 .shifted, i .1 .low, i .2)
 
-  pub going-few : Going m s1 s2 a g log₀ log walking left t ipa tables level1 word1 k → k ≤ 20
+  pub going-few : Going m s1 s2 a g log₀ log walking left t ipa tables word1 k → k ≤ 20
   going-few (walks w on i few) = omega arith
   going-few (ends w r few) = few
 
-  pub going-same : Going m s1 s2 a g log₀ log walking left t ipa tables level1 word1 k → length log ≡ length log₀
+  pub going-same : Going m s1 s2 a g log₀ log walking left t ipa tables word1 k → length log ≡ length log₀
   going-same (walks w on i few) = i .same
   going-same (ends w r few) = ran-length r
 
 -- ---- with what stage 2 gave
 
-module _ {m : Request → Read} {s1 : Stage1} {s2 : Stage2} {a : Access} {g : Geometry} {log₀ log : List ℕ} {walking : Bool} {left t ipa tables level1 word1 k : ℕ}
-    (now : Going m s1 s2 a g log₀ log walking left t ipa tables level1 word1 k) {r : End} {log₁ : List ℕ} (x : Seconded m s2 a walking ipa log k r log₁) where
+module _ {m : Request → Read} {s1 : Stage1} {s2 : Stage2} {a : Access} {g : Geometry} {log₀ log : List ℕ} {walking : Bool} {left t ipa tables word1 k : ℕ}
+    (now : Going m s1 s2 a g log₀ log walking left t ipa tables word1 k) {r : End} {log₁ : List ℕ} (x : Seconded m s2 a walking ipa log k r log₁) where
   abbrev Arrives : By → Type 0
-  Arrives b = Ran m (access s1 s2 a) log₀ 0 (arrived s1 s2 a (record { by = b; end = r; ipa = ipa; level1 = level1; word1 = word1 })) (r .count) log₁
+  Arrives b = Ran m (access s1 s2 a) log₀ 0 (arrived s1 s2 a (record { by = b; end = r; ipa = ipa; left1 = left; word1 = word1 })) (r .count) log₁
 
   pub going-ends : walking ≡ false → Arrives Second
   unfolding access arrived stageBy
-  going-ends e = ran-then m (finish s2 a) (at-output now e) (x .finished e (outputOf s1 a ipa level1 word1) refl)
+  going-ends e = ran-then m (finish s2 a) (at-output now e) (x .finished e (outputOf s1 a ipa (leafLevel s1 left) word1) refl)
 
   pub going-stops : passed (r .ending) ≡ false → Arrives (pick walking OnWalk Second)
   unfolding arrived stageBy pick
@@ -153,7 +153,7 @@ module _ {m : Request → Read} {s1 : Stage1} {s2 : Stage2} {a : Access} {g : Ge
       by-walking : (b : Bool) → walking ≡ b → Arrives (pick b OnWalk Second)
       by-walking true e =
           let i = at-entry now e in
-          rw (outcome-stopped {A = Translation} (Two ipa true) (finishedAt s2 a (outputOf s1 a ipa level1 word1) r) r p)
+          rw (outcome-stopped {A = Translation} (Two ipa true) (finishedAt s2 a (outputOf s1 a ipa (leafLevel s1 left) word1) r) r p)
           (stopped-walk m s1 s2 a (i .0) (walking-stopped (i .1) (rw (outcome-stopped (Two ipa true) (r .address) r p) at (x .placed e))))
       by-walking false e = going-ends e
 
@@ -177,7 +177,7 @@ module _ {m : Request → Read} {s1 : Stage1} {s2 : Stage2} {a : Access} {g : Ge
       Log = set log₁ (r .count) (r .address)
 
       pub going-down : leadsDown (turnOf (decode g left y)) ≡ true → 0 < left → r .count ≤ k + 4 →
-          Going m s1 s2 a g log₀ Log walking (left - 1) (t - g .stride) (upper y (g .grainsize) + 8 * field (a .address) (t - g .stride) (g .stride)) (bitOr tables y) level1 word1 (r .count + 1)
+          Going m s1 s2 a g log₀ Log walking (left - 1) (t - g .stride) (upper y (g .grainsize) + 8 * field (a .address) (t - g .stride) (g .stride)) (bitOr tables y) word1 (r .count + 1)
       going-down d more c =
           let i = at-entry now on in
           walks on (i .0) (rw (imposed-or tables y) (walking-down (i .1) placed f d more)) (omega (arith, i .2))
@@ -194,15 +194,15 @@ module _ {m : Request → Read} {s1 : Stage1} {s2 : Stage2} {a : Access} {g : Ge
             checked-leaf m s1 s2 a (leafAt g left y (imposed tables)) (reading y) (i .0) (walking-leaf (i .1) placed f l) (rw (i .1 .shifted)) refl refl (rw l at is)
 
         -- a leaf that passes
-        pub going-leaf : passed e ≡ true → r .count ≤ k + 4 → Going m s1 s2 a g log₀ Log false left t (outputAddress y t (a .address)) tables (3 - left) y (r .count + 1)
+        pub going-leaf : passed e ≡ true → r .count ≤ k + 4 → Going m s1 s2 a g log₀ Log false left t (outputAddress y t (a .address)) tables y (r .count + 1)
         unfolding pick
         going-leaf q c = by-leaf (isLeaf (turnOf (decode g left y))) refl
           where
-            by-leaf : (b : Bool) → isLeaf (turnOf (decode g left y)) ≡ b → Going m s1 s2 a g log₀ Log false left t (outputAddress y t (a .address)) tables (3 - left) y (r .count + 1)
+            by-leaf : (b : Bool) → isLeaf (turnOf (decode g left y)) ≡ b → Going m s1 s2 a g log₀ Log false left t (outputAddress y t (a .address)) tables y (r .count + 1)
             by-leaf true l =
                 let i = at-entry now on in
                 ends refl
-                (rw (pick-true (s1 .on) (settledPart (stage1Attributes (s1 .mair) (uncached1 s1 a) y)) _ (i .0))
+                (rw (pick-true (s1 .on) (settledPart (stage1Attributes (s1 .mair) (uncached1 s1 a) y)) _ (i .0), pick-true (s1 .on) (3 - left) 0 (i .0))
                 (rw (outcome-passed One _ (reading y) q) at (leaf-ended l)))
                 (omega (arith, i .2))
             by-leaf false l = absurd (true≢false (sym q ∙ rw (is, l) (over-stops _ not-down l)))

@@ -90,7 +90,7 @@ module _ (p : Prepared1) (a : Access) (o : Opening) where
 
 module _ (m : Request → Read) (s2 : Stage2) (p : Prepared1) (a : Access) (o : Opening) (log : List ℕ) where
   pub opens-going : Opens p a o → passed (o .ending) ≡ true →
-      Going m (stage1Of p) s2 a (o .start .table .geometry) log log (o .walking) (o .start .table .levels - 1) (o .start .shift) (o .ipa) 0 0 0 0
+      Going m (stage1Of p) s2 a (o .start .table .geometry) log log (o .walking) (o .start .table .levels - 1) (o .start .shift) (o .ipa) 0 0 0
   opens-going (walks on w e l starts ipa) q =
       let u = starts-usable (o .start) (root1At (stage1Of p) (a .address)) starts (rw e at q) in
       let f = u .1 in
@@ -108,7 +108,7 @@ module _ (m : Request → Read) (s2 : Stage2) (p : Prepared1) (a : Access) (o : 
       (omega (arith, f .small .levels))
   opens-going (passes off w e l within ipa) q =
       Calls.ends w
-      (rw (ipa, pick-false (p .on) _ (stage1OffAttributes (p .dc) (isFetch a) (p .i)) off)
+      (rw (ipa, pick-false (p .on) _ (stage1OffAttributes (p .dc) (isFetch a) (p .i)) off, pick-false (p .on) (3 - (o .start .table .levels - 1)) 0 off)
       (rw (outcome-passed One (offOutput (stage1Of p) a) (stoppedBy (offEnding (stage1Of p) a) 0 0) (rw e at q)) at (ran-off m (stage1Of p) s2 a log off)))
       (omega arith)
 

@@ -3,7 +3,7 @@
 use mathlib.Core.Path.{_≡_}
 use mathlib.Core.Bool.{Bool, true, false, not, _&&_, _||_}
 use mathlib.Core.List.{List}
-use Prim.Native.Nat.{ℕ, suc, _+_, _*_, _/_, _%_, _^_, _<_}
+use Prim.Native.Nat.{ℕ, suc, _+_, _-_, _*_, _/_, _%_, _^_, _<_}
 use lib.Dec.{eqb}
 use Rattle.bits.specs.Bits.{pick, field}
 use Rattle.reads.specs.Program.{Request, Outcome, reached, stopped}
@@ -66,16 +66,20 @@ finishedAt s a o e = record { address = e .address; attributes = combined s a (o
 abbrev pub outputOf : Stage1 → Access → (ipa level word : ℕ) → Output
 outputOf s a ipa level word = record { address = ipa; attributes = attributes1 s a word; level = level }
 
+-- the level of stage 1's leaf, with so many levels below it
+abbrev pub leafLevel : Stage1 → (left : ℕ) → ℕ
+leafLevel s left = pick (s .on) (3 - left) 0
+
 unfoldable pub stageBy : By → (ipa : ℕ) → Stage
 stageBy First ipa = One
 stageBy OnWalk ipa = Two ipa true
 stageBy Second ipa = Two ipa false
 
 unfoldable pub arrived : Stage1 → Stage2 → Access → Arrival → Outcome Stop Translation
-arrived s1 s2 a r = outcome (stageBy (r .by) (r .ipa)) (finishedAt s2 a (outputOf s1 a (r .ipa) (r .level1) (r .word1)) (r .end)) (r .end)
+arrived s1 s2 a r = outcome (stageBy (r .by) (r .ipa)) (finishedAt s2 a (outputOf s1 a (r .ipa) (leafLevel s1 (r .left1)) (r .word1)) (r .end)) (r .end)
 
 abbrev pub atFirst : End → Arrival
-atFirst e = record { by = First; end = e; ipa = 0; level1 = 0; word1 = 0 }
+atFirst e = record { by = First; end = e; ipa = 0; left1 = 0; word1 = 0 }
 
 -- stages of which only what attributes go by is told
 abbrev nowhere : Root

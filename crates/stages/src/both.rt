@@ -61,8 +61,8 @@ pub struct Arrival {
     pub end: End,
     // What stage 2 was asked for.
     pub ipa: u64,
-    // Stage 1's leaf.
-    pub level1: u64,
+    // Stage 1's leaf: the levels below it, which the walk counts by, and its descriptor.
+    pub left1: u64,
     pub word1: u64,
 }
 
@@ -108,7 +108,7 @@ fn first(end: End) -> Arrival
         by: By::First,
         end,
         ipa: 0,
-        level1: 0,
+        left1: 0,
         word1: 0,
     }
 }
@@ -138,7 +138,6 @@ fn walk1(
     let mut shift = start.shift;
     let mut ipa = o.ipa;
     let mut tables = 0;
-    let mut level1 = 0;
     let mut word1 = 0;
     let mut k = 0;
     loop {
@@ -172,7 +171,6 @@ fn walk1(
                             if end::passed(ended) {
                                 walking = false;
                                 ipa = entry::output_address(x, shift, input);
-                                level1 = 3 - left;
                                 word1 = x;
                             } else {
                                 return first(end::stopped(ended, 3 - left, k));
@@ -185,7 +183,7 @@ fn walk1(
                     by: By::Second,
                     end: r,
                     ipa,
-                    level1,
+                    left1: left,
                     word1,
                 };
             }
@@ -194,7 +192,7 @@ fn walk1(
                 by: by_stage2(walking),
                 end: r,
                 ipa,
-                level1,
+                left1: left,
                 word1,
             };
         }
@@ -314,6 +312,18 @@ fn stop_by(s: Stage, address: u64, level: u64, ending: Ending) -> Stop
     }
 }
 
+// The level of stage 1's leaf. A stage that is off has level 0.
+fn level1(m: Memory, left: u64) -> u64
+    ensures { λ r. ⌜ r ≡ Calls.leafLevel (Calls.memory1 m) left ⌝ }
+{
+    let on = m.on1;
+    if on {
+        if left < 3 { 3 - left } else { 0 }
+    } else {
+        0
+    }
+}
+
 // How an access ends, from its plain words. Attributes are decoded here, once.
 pub fn reached_by(m: Memory, a: Access, r: Arrival) -> Reached
     ensures { λ z. ⌜ Calls.outcomeOf z ≡ Calls.arrived (Calls.memory1 m) (Calls.memory2 m) a r ⌝ }
@@ -326,7 +336,7 @@ pub fn reached_by(m: Memory, a: Access, r: Arrival) -> Reached
         Reached::To(Translation {
             address,
             attributes: combined(m, a, attributes1(m, a, r.word1), end.word),
-            level1: r.level1,
+            level1: level1(m, r.left1),
             level2: level,
         })
     } else {

@@ -17,9 +17,10 @@ reached-by-spec =
     (λ c κs. search needs)
     (λ c κs. search needs)
     (λ c κs. search needs)
+    (λ c κs. search needs)
     (λ c.
-    let k = c .before .before in
-    rw (← c .before .attributes1 .ensures, ← c .combined .ensures) (sym (outcome-passed _ _ _ (sym (k .before .passed .ensures) ∙ k .if1 .taken))))
+    let k = c .before .before .before in
+    rw (← c .before .before .attributes1 .ensures, ← c .before .combined .ensures, ← c .level1 .ensures) (sym (outcome-passed _ _ _ (sym (k .before .passed .ensures) ∙ k .if1 .taken))))
     (λ c.
     let k = c .before .before in
     rw (c .stop-by .ensures, c .before .stage-of .ensures) (sym (outcome-stopped _ _ _ (sym (k .before .passed .ensures) ∙ k .if1 .left)))))

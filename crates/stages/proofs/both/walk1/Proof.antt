@@ -22,12 +22,12 @@ use Rattle.stages.proofs.both.walk1.Statement.{statement}
 use Rattle.stages.proofs.both.walk1.Tie as tie
 
 abbrev Inv-loop : tie.InvT-loop
-Inv-loop bytes base p q a log₀ input masks g stride levels walking₀ left₀ shift₀ ipa₀ tables₀ level1₀ word1₀ k₀ log walking left shift ipa tables level1 word1 k =
-    Going (captured base bytes) (stage1Of p) (stage2Of q) a g log₀ log walking left shift ipa tables level1 word1 k
+Inv-loop bytes base p q a log₀ input masks g stride levels walking₀ left₀ shift₀ ipa₀ tables₀ word1₀ k₀ log walking left shift ipa tables word1 k =
+    Going (captured base bytes) (stage1Of p) (stage2Of q) a g log₀ log walking left shift ipa tables word1 k
 
 -- the levels that are left, while there is a walk
 abbrev μ-loop : tie.MeasureT-loop
-μ-loop bytes base p q a log₀ input masks g stride levels walking₀ left₀ shift₀ ipa₀ tables₀ level1₀ word1₀ k₀ log walking left shift ipa tables level1 word1 k = pick walking (suc left) 0
+μ-loop bytes base p q a log₀ input masks g stride levels walking₀ left₀ shift₀ ipa₀ tables₀ word1₀ k₀ log walking left shift ipa tables word1 k = pick walking (suc left) 0
 
 loop-holds : tie.Need-loop-holds Inv-loop μ-loop
 loop-holds c = let x = c .before .before .before .before .before .before in opens-going _ _ _ _ _ _ (x .pre .4) (x .pre .5)
@@ -171,7 +171,6 @@ walk1-spec =
     (λ c κs. c .before .before .before .before .before .before .before .before .before .before .before .before .before .before .before .before .before .before .before .before .before .pre .1)
     (λ c κs. search needs)
     (λ c κs. let t = c .before .before .before .before .before .before .before .before .before .before in going-entry (t .before .before .before .before .before .before .before .loop .inv) (t .if2 .taken) .2)
-    (λ c. let t = c .before .before .before .before .before .before .before .before .before .before .before in going-entry (t .before .before .before .before .before .before .before .loop .inv) (t .if2 .taken) .0)
     loop-less-2
     loop-again-2
     (λ c. let t = c .before .before .before .before .before .before .before .before .before .before in going-entry (t .before .before .before .before .before .before .before .loop .inv) (t .if2 .taken) .0)
