@@ -98,10 +98,6 @@ checks s n z most h e =
 
 -- ---- what is read back of start levels and of a size check
 
-pub start1-held : (s output : ℕ) (z : ℤ) → s ≤ 64 → z ≡ start1 (fourK s output) → held z ≡ z
-unfolding start1
-start1-held s output z h e = toZ-ofZ (subst (SFits w64) (sym e) (difference-fits 4 ((s - 12 + 8) / 9) (omega arith) (omega arith)))
-
 pub start2-held : (n : ℕ) (z : ℤ) → n < 4 → z ≡ start2 n → held z ≡ z
 start2-held n z h e =
     toZ-ofZ (subst (SFits w64) (sym e) (by-start2 (SFits w64) (sfits-lit tt) (sfits-lit tt) (sfits-lit tt) (sfits-lit tt) n h))
@@ -116,21 +112,17 @@ check-held s output n z most h e =
 
 -- ---- how many levels lie below a start level
 
-four-less-below : (k : ℕ) → k ≤ 6 → levelsBelow (pos 4 -ℤ pos k) ≤ 8
+-- one fewer than the strides of stage 1
+pub below-four : (k : ℕ) → k ≤ 6 → k - 1 ≡ levelsBelow (pos 4 -ℤ pos k)
 unfolding levelsBelow
-four-less-below zero h = omega arith
-four-less-below (suc zero) h = omega arith
-four-less-below (suc (suc zero)) h = omega arith
-four-less-below (suc (suc (suc zero))) h = omega arith
-four-less-below (suc (suc (suc (suc zero)))) h = omega arith
-four-less-below (suc (suc (suc (suc (suc zero))))) h = omega arith
-four-less-below (suc (suc (suc (suc (suc (suc zero)))))) h = omega arith
-four-less-below (suc (suc (suc (suc (suc (suc (suc k))))))) h = absurd (omega arith)
-
-pub few-below1 : (s output : ℕ) (z : ℤ) → s ≤ 64 → z ≡ start1 (fourK s output) → levelsBelow (held z) ≤ 8
-unfolding start1
-few-below1 s output z h e =
-    subst (λ y. levelsBelow y ≤ 8) (sym (start1-held s output z h e ∙ e)) (four-less-below ((s - 12 + 8) / 9) (omega arith))
+below-four zero h = refl
+below-four (suc zero) h = refl
+below-four (suc (suc zero)) h = refl
+below-four (suc (suc (suc zero))) h = refl
+below-four (suc (suc (suc (suc zero)))) h = refl
+below-four (suc (suc (suc (suc (suc zero))))) h = refl
+below-four (suc (suc (suc (suc (suc (suc zero)))))) h = refl
+below-four (suc (suc (suc (suc (suc (suc (suc k))))))) h = absurd (omega arith)
 
 pub few-below2 : (n : ℕ) (z : ℤ) → n < 4 → z ≡ start2 n → levelsBelow (held z) ≤ 8
 unfolding levelsBelow

@@ -26,11 +26,11 @@ pub fn start2(vtcr: Vtcr) -> i64
     2 - vtcr.sl0() as i64
 }
 
-// Stage 1's start level, by a size field of six bits. No output size counts.
-pub fn start1(tnsz: u64) -> i64
-    ensures { λ r. ⌜ ((output : ℕ) → r ≡ Level.start1 (Level.fourK (Level.inputSize (tnsz % 64)) output)) ⌝ }
+// The levels below stage 1's start level, by a size field of six bits: one fewer than the strides. No output size counts.
+pub fn below_start1(tnsz: u64) -> u64
+    ensures { λ r. ⌜ ((output : ℕ) → r ≡ Level.levelsBelow (Level.start1 (Level.fourK (Level.inputSize (tnsz % 64)) output))) × (r ≤ 8) ⌝ }
 {
-    4 - strides(64 - tnsz % 64) as i64
+    less(strides(64 - tnsz % 64), 1)
 }
 
 // The strides that the input bits above the granule take, rounded up.

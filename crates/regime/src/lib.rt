@@ -111,7 +111,7 @@ fn start1(ips: u64, h: Half) -> Start
     if h.epd {
         return start::nowhere(Ending::Translation, 0);
     }
-    let n = level::levels_below(level::start1(tnsz));
+    let n = level::below_start1(tnsz);
     start_from(64 - tnsz, level::output_size(ips), n, h.ttbr)
 }
 
@@ -165,40 +165,34 @@ pub fn start2(r: El2) -> Start
     start_from(64 - vtcr.t0sz(), level::output_size(vtcr.ps()), n, r.vttbr)
 }
 
-// With stage 2 off no walk starts.
-fn start2_if(on: bool, r: El2) -> Start
-    ensures { λ s. ⌜ Starts s (pick on (Roots.root2 r) (Unusable Translation 0)) ⌝ }
-{
-    if on {
-        start2(r)
-    } else {
-        start::nowhere(Ending::Translation, 0)
-    }
-}
-
-// Nor is there an IPA. (Where the limit was 2 to a size in any case, the compiler would shift at each IPA in the place of a comparison.)
-fn limit_if(on: bool, inputsize: u64) -> u64
-    ensures { λ r. ⌜ (on ≡ true → r ≡ limit inputsize) ⌝ }
-{
-    if on { turn::limit(inputsize) } else { 0 }
-}
-
-// Stage 2 for walks.
+// Stage 2 for walks. Where it is off no walk starts and there is no IPA. (Where the limit was 2 to a size in any case, the compiler would
+// shift at each IPA in the place of a comparison.)
 pub fn prepared2(r: El2) -> Prepared2
     ensures { λ p. ⌜ (stage2Of p ≡ Calls.narrowed2 r) × Sound2 p ⌝ }
 {
-    let on = settings::stage2_on(r);
     let hcr = r.hcr;
     let vtcr = r.vtcr;
     let inputsize = 64 - vtcr.t0sz();
-    Prepared2 {
-        on,
-        inputsize,
-        limit: limit_if(on, inputsize),
-        start: start2_if(on, r),
-        cd: hcr.cd(),
-        id: hcr.id(),
-        ptw: hcr.ptw(),
+    if settings::stage2_on(r) {
+        Prepared2 {
+            on: true,
+            inputsize,
+            limit: turn::limit(inputsize),
+            start: start2(r),
+            cd: hcr.cd(),
+            id: hcr.id(),
+            ptw: hcr.ptw(),
+        }
+    } else {
+        Prepared2 {
+            on: false,
+            inputsize,
+            limit: 0,
+            start: start::nowhere(Ending::Translation, 0),
+            cd: hcr.cd(),
+            id: hcr.id(),
+            ptw: hcr.ptw(),
+        }
     }
 }
 

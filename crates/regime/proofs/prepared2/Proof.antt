@@ -1,24 +1,42 @@
 -- `prepared2` meets its contract, by those of what it calls.
 -- Assumes nothing.
 use borrow.Author.Needs.{needs}
-use Rattle.bits.specs.Bits.{pick}
+use mathlib.Core.Path.{sym, _∙_}
+use mathlib.Core.Bool.{true≢false}
+use Rattle.bits.proofs.Tests.{pick-true, pick-false}
 use Rattle.descriptor.specs.declared.entry.FaultKind.the-variants.{Translation}
 use Rattle.walk.specs.declared.table.Root.the-variants.{Unusable}
+use Rattle.walk.specs.Ends.{faulted}
 use Rattle.walk.proofs.Ends.{starts-root}
+use Rattle.settings.specs.Settings.{stage2On}
 use Rattle.regime.specs.Roots.{root2}
 use Rattle.regime.proofs.prepared2.Statement.{statement}
 use Rattle.regime.proofs.prepared2.Tie as tie
 
 returns : tie.Need-returns
 returns c =
-    let s = c .before .before .before .start2-if in
-    let k = c .before .before .before .before .before .before .before .before in
-    let root = starts-root (s .result) (pick (k .stage2-on .result) (root2 (k .before .args .r)) (Unusable Translation 0)) (s .ensures) in
-    (cc root, record { limit = c .before .before .before .before .limit-if .ensures; start = rw root (s .ensures) })
+    let s = c .before .before .before .start2 in
+    let k = c .before .before .before .before .before in
+    let r = k .before .before .before .before .before .args .r in
+    let on = sym (k .before .stage2-on .ensures) ∙ k .if1 .taken in
+    let root = starts-root (s .result) (root2 r) (s .ensures) in
+    (cc (root, on, pick-true (stage2On r) (root2 r) (Unusable Translation 0) on), record { limit = λ _. c .before .before .before .before .limit .ensures; start = rw root (s .ensures) })
+
+returns-2 : tie.Need-returns-2
+unfolding faulted
+returns-2 c =
+    let s = c .before .before .before .nowhere in
+    let k = c .before .before .before .before in
+    let r = k .before .before .before .before .before .args .r in
+    let off = sym (k .before .stage2-on .ensures) ∙ k .if1 .left in
+    let root = starts-root (s .result) (Unusable Translation 0) (s .ensures) in
+    (cc (root, off, pick-false (stage2On r) (root2 r) (Unusable Translation 0) off), record { limit = λ on. absurd (true≢false (sym on)); start = rw root (s .ensures) })
 
 pub prepared2-spec : {M : Type 1} → statement M
 prepared2-spec =
     tie.close
     (tie.spec
-    (λ c κs. tt) (λ c κs. tt) (λ c. search needs) (λ c κs. tt) (λ c κs. tt) (λ c κs. tt) (λ c κs. tt) (λ c κs. tt)
-    returns)
+    (λ c κs. tt) (λ c. search needs) (λ c κs. tt)
+    (λ c κs. tt) (λ c κs. tt) (λ c κs. tt) (λ c κs. tt) (λ c κs. tt)
+    (λ c κs. tt) (λ c κs. tt) (λ c κs. tt) (λ c κs. tt)
+    returns returns-2)

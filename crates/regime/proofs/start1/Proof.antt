@@ -7,25 +7,23 @@ use native.Mathlib.Omega.{arith}
 use Rattle.bits.specs.Bits.{pick}
 use Rattle.walk.specs.Ends.{faulted}
 use Rattle.level.specs.Level.{fourK, outputSize, start1, levelsBelow}
-use Rattle.level.proofs.Signed.{few-below1, start1-held}
 use Rattle.regime.proofs.Ready.{small1}
 use Rattle.regime.proofs.start1.Statement.{statement}
 use Rattle.regime.proofs.start1.Tie as tie
 
 -- the levels below the start level
-below : (c : tie.After-levels-below) → let a = c .before .before .before .args in c .levels-below .result ≡ levelsBelow (start1 (fourK (64 - a .h .tnsz) (outputSize (a .ips))))
+below : (c : tie.After-below-start1) → let a = c .before .before .args in c .below-start1 .result ≡ levelsBelow (start1 (fourK (64 - a .h .tnsz) (outputSize (a .ips))))
 below c =
-    let a = c .before .before .before .args in
-    let s = c .before .start1 in
+    let a = c .before .before .args in
     let whole : a .h .tnsz % 64 ≡ a .h .tnsz = omega arith in
-    cc (rw whole at (s .ensures (outputSize (a .ips))), start1-held _ 0 (s .result) (omega arith) (s .ensures 0))
+    rw whole at (c .below-start1 .ensures .0 (outputSize (a .ips)))
 
 start-from-requires : tie.Need-start-from-requires
 start-from-requires c κs =
-    let e = c .before .before .before in
+    let e = c .before .before in
     let k = e .before in (
       omega arith,
-      rw (c .before .levels-below .ensures) (few-below1 _ 0 _ (omega arith) (c .before .before .start1 .ensures 0)),
+      c .before .below-start1 .ensures .1,
       rw (below (c .before), c .output-size .ensures) (small1 (k .args .ips) (k .args .h .tnsz) (k .args .h .ttbr) (k .pre .1 (e .if1 .left))),
     )
 
@@ -37,8 +35,7 @@ start1-spec =
     (λ c κs. tt)
     (λ c. rw (c .before .if1 .taken) (c .nowhere .ensures))
     (λ c κs. tt)
-    (λ c κs. tt)
     (λ c. search needs)
     (λ c κs. tt)
     start-from-requires
-    (λ c. rw (c .before .before .before .before .if1 .left, ← below (c .before .before), ← c .before .output-size .ensures) (c .start-from .ensures)))
+    (λ c. rw (c .before .before .before .if1 .left, ← below (c .before .before), ← c .before .output-size .ensures) (c .start-from .ensures)))
