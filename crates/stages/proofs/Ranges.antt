@@ -7,22 +7,35 @@ use Prim.Native.Nat.{ℕ, suc, _+_, _-_, _*_, _/_, _%_, _^_, _≤_, _<_}
 use native.Mathlib.Nat.{mod-eq-of-lt, div-eq-of-lt, lt-of-lt-of-le, le-trans, le-antisymm, le-div-iff-mul-le, div-lt-iff-lt-mul, lt-div-mul-add}
 use native.Mathlib.Omega.{arith}
 use lib.Dec.{eqb, leb, ltb, lit<, lit≤}
+use lib.Bits.{bitAnd, and-mask}
 use lib.Pow.{pow-pos, pow-mono, shr-mono}
 use borrow.Author.Tests.{ltb-true, ltb-false, leb-true, leb-false, eqb-true, eqb-false, lt-ltb, le-leb, lt-leb, eq-eqb, ne-eqb}
 use Rattle.bits.specs.Bits.{pick, bit}
-use Rattle.bits.proofs.Tests.{by-pick, pick-true, pick-false}
+use Rattle.bits.proofs.Tests.{by-pick, pick-false}
 use Rattle.bits.proofs.Shifts.{shifted-out}
 use Rattle.descriptor.specs.declared.entry.FaultKind.the-variants.{Translation}
 use Rattle.walk.specs.declared.table.Root.{Root}
 use Rattle.walk.specs.declared.table.Root.the-variants.{Unusable}
 use Rattle.stages.specs.Stage1.{root1At}
-use Rattle.stages.specs.Ranges.{counted, ones, within, boundsOf, rangeAt, rootAt, Narrow, limited, disabled}
+use Rattle.stages.specs.Ranges.{counted, ones, within, boundsOf, Counting, rangeAt, rootAt, Narrow, limited, disabled}
 use Rattle.stages.specs.declared.stage1.VaRange.{VaRange}
 use Rattle.stages.specs.declared.stage1.Stage1.{Stage1}
+use Rattle.stages.specs.declared.range.Bounds.{Bounds}
 use Rattle.stages.specs.declared.range.Range.the-variants.{Lower, Upper, Neither}
 
 pub ones-64 : (tbi : Bool) → ones tbi < 2 ^ 64
 ones-64 tbi = by-pick (λ x. x < 2 ^ 64) tbi (2 ^ 56 - 1) (2 ^ 64 - 1) (λ _. lit< tt) (λ _. lit< tt)
+
+-- what the mask leaves of an address
+pub and-ones : (a : ℕ) (tbi : Bool) → a < 2 ^ 64 → bitAnd a (ones tbi) ≡ counted tbi a
+unfolding pick
+and-ones a true fits = and-mask a 56
+and-ones a false fits = and-mask a 64 ∙ mod-eq-of-lt fits
+
+-- a stage's bounds have the masks of its flags
+pub counting-of : (s : Stage1) (b : Bounds) → b ≡ boundsOf s → Counting b
+unfolding boundsOf
+counting-of s b e = rw e (refl, refl)
 
 -- ---- one comparison
 

@@ -2,7 +2,7 @@
 -- With such stages this range's root is the one of Stage1.antt (proofs/Ranges.antt).
 -- Assumes nothing.
 use mathlib.Core.Path.{_≡_}
-use mathlib.Core.Bool.{Bool, true}
+use mathlib.Core.Bool.{Bool}
 use Prim.Native.Nat.{ℕ, _-_, _*_, _/_, _%_, _^_, _≤_}
 use lib.Dec.{leb, ltb}
 use Rattle.bits.specs.Bits.{pick, bit}
@@ -33,10 +33,14 @@ floor tbi n = ones tbi / 2 ^ n * 2 ^ n
 
 -- what tells the range of any address
 abbrev pub bounds : (tbi0 tbi1 : Bool) (lower upper pamax : ℕ) → Bounds
-bounds tbi0 tbi1 lower upper pamax = record { tbi0 = tbi0; tbi1 = tbi1; within = within lower; floor = floor tbi1 upper; ceiling = within pamax }
+bounds tbi0 tbi1 lower upper pamax = record { tbi0 = tbi0; tbi1 = tbi1; counts0 = ones tbi0; counts1 = ones tbi1; within = within lower; floor = floor tbi1 upper; ceiling = within pamax }
 
 unfoldable pub boundsOf : Stage1 → Bounds
 boundsOf s = bounds (s .tbi0) (s .tbi1) (s .lower .inputsize) (s .upper .inputsize) (s .pamax)
+
+-- the masks are those of the flags
+abbrev pub Counting : Bounds → Type 0
+Counting b = (b .counts0 ≡ ones (b .tbi0)) × (b .counts1 ≡ ones (b .tbi1))
 
 -- the range of an address
 unfoldable pub rangeAt : Bounds → ℕ → Range

@@ -1,5 +1,6 @@
 // Stage 1's VA range of an address, by bit 55 and one comparison; and with stage 1 off whether it is an address at all.
 ghost use mathlib.Core.Path.{_≡_};
+ghost use mathlib.Core.Bool.{Bool};
 ghost use Prim.Native.Nat.{ℕ, suc, _/_, _%_, _^_};
 ghost use lib.Dec.{eqb};
 ghost use Rattle.bits.specs.Bits.{pick, bit};
@@ -14,9 +15,12 @@ pub enum Range {
 
 // What tells an address's range.
 pub struct Bounds {
-    // TCR_EL1.TBI0 and TBI1, for addresses with bit 55 clear and set.
+    // TCR_EL1.TBI0 and TBI1, for addresses with bit 55 clear and set. The definitions go by these, the code by the masks.
     pub tbi0: bool,
     pub tbi1: bool,
+    // The address bits that count, for addresses with bit 55 clear and set: 56 with TBI, else all.
+    pub counts0: u64,
+    pub counts1: u64,
     // 2 to the lower range's input size.
     pub within: u64,
     // The first address of the upper range, as far as bits count.
@@ -26,10 +30,10 @@ pub struct Bounds {
 }
 
 // The bits of an address that count.
-fn counted(tbi: bool, a: u64) -> u64
-    ensures { λ r. ⌜ r ≡ Ranges.counted tbi a ⌝ }
+fn counted(counts: u64, a: u64) -> u64
+    ensures { λ r. ⌜ ((tbi : Bool) → counts ≡ Ranges.ones tbi → r ≡ Ranges.counted tbi a) ⌝ }
 {
-    if tbi { a % 0x100_0000_0000_0000 } else { a }
+    a & counts
 }
 
 // An address of ones, as far as its bits count.
@@ -72,6 +76,8 @@ pub fn bounds_of(tbi0: bool, tbi1: bool, lower: u64, upper: u64, pamax: u64) -> 
     Bounds {
         tbi0,
         tbi1,
+        counts0: ones(tbi0),
+        counts1: ones(tbi1),
         within: within(lower),
         floor: floor(tbi1, upper),
         ceiling: within(pamax),
@@ -80,16 +86,17 @@ pub fn bounds_of(tbi0: bool, tbi1: bool, lower: u64, upper: u64, pamax: u64) -> 
 
 // The range of an address.
 pub fn range_at(b: Bounds, address: u64) -> Range
+    requires { ⌜ Ranges.Counting b ⌝ }
     ensures { λ r. ⌜ r ≡ Ranges.rangeAt b address ⌝ }
 {
     if bits::bit(address, 55) {
-        if counted(b.tbi1, address) < b.floor {
+        if counted(b.counts1, address) < b.floor {
             Range::Neither
         } else {
             Range::Upper
         }
     } else {
-        if b.within <= counted(b.tbi0, address) {
+        if b.within <= counted(b.counts0, address) {
             Range::Neither
         } else {
             Range::Lower
@@ -99,11 +106,12 @@ pub fn range_at(b: Bounds, address: u64) -> Range
 
 // With stage 1 off: the bits of an address that count lie below PAMax.
 pub fn in_pamax(b: Bounds, address: u64) -> bool
+    requires { ⌜ Ranges.Counting b ⌝ }
     ensures { λ r. ⌜ ((n : ℕ) → b .ceiling ≡ 2 ^ n → r ≡ eqb (address % 2 ^ suc (pick {A = ℕ} (pick (bit address 55) (b .tbi1) (b .tbi0)) 55 63) / 2 ^ n) 0) ⌝ }
 {
     if bits::bit(address, 55) {
-        !(b.ceiling <= counted(b.tbi1, address))
+        !(b.ceiling <= counted(b.counts1, address))
     } else {
-        !(b.ceiling <= counted(b.tbi0, address))
+        !(b.ceiling <= counted(b.counts0, address))
     }
 }

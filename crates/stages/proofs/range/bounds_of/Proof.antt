@@ -11,4 +11,6 @@ bounds-of-spec =
     (λ c κs. search needs)
     (λ c κs. search needs)
     (λ c κs. search needs)
-    (λ c. rw (c .before .before .within .ensures, c .before .floor .ensures, c .within2 .ensures)))
+    (λ c κs. search needs)
+    (λ c κs. search needs)
+    (λ c. rw (c .before .before .before .before .ones .ensures, c .before .before .before .ones2 .ensures, c .before .before .within .ensures, c .before .floor .ensures, c .within2 .ensures)))

@@ -16,7 +16,9 @@ in-pamax-spec =
     (λ c κs. search needs)
     (λ c n e.
     let b = c .before .before .before in
-    rw (c .before .counted .ensures, ← b .bit .ensures, c .before .before .if1 .taken) (below-ceiling _ n (b .before .args .b .tbi1) (b .before .fits .address .fits) e))
+    let tbi = b .before .args .b .tbi1 in
+    rw (c .before .counted .ensures tbi (b .before .pre .1), ← b .bit .ensures, c .before .before .if1 .taken) (below-ceiling _ n tbi (b .before .fits .address .fits) e))
     (λ c n e.
     let b = c .before .before .before in
-    rw (c .before .counted2 .ensures, ← b .bit .ensures, c .before .before .if1 .left) (below-ceiling _ n (b .before .args .b .tbi0) (b .before .fits .address .fits) e)))
+    let tbi = b .before .args .b .tbi0 in
+    rw (c .before .counted2 .ensures tbi (b .before .pre .0), ← b .bit .ensures, c .before .before .if1 .left) (below-ceiling _ n tbi (b .before .fits .address .fits) e)))

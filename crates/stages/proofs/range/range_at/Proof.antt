@@ -17,13 +17,13 @@ range-at-spec =
     (λ c κs. search needs)
     (λ c.
     let d = c .before .before in
-    rw (← d .before .before .bit .ensures, d .before .if1 .taken, ← d .counted .ensures, lt-ltb _ _ (c .if2 .taken)))
+    rw (← d .before .before .bit .ensures, d .before .if1 .taken, ← d .counted .ensures _ (d .before .before .before .pre .1), lt-ltb _ _ (c .if2 .taken)))
     (λ c.
     let d = c .before .before in
-    rw (← d .before .before .bit .ensures, d .before .if1 .taken, ← d .counted .ensures, le-ltb _ _ (c .if2 .left)))
+    rw (← d .before .before .bit .ensures, d .before .if1 .taken, ← d .counted .ensures _ (d .before .before .before .pre .1), le-ltb _ _ (c .if2 .left)))
     (λ c.
     let d = c .before .before in
-    rw (← d .before .before .bit .ensures, d .before .if1 .left, ← d .counted2 .ensures, le-leb _ _ (c .if3 .taken)))
+    rw (← d .before .before .bit .ensures, d .before .if1 .left, ← d .counted2 .ensures _ (d .before .before .before .pre .0), le-leb _ _ (c .if3 .taken)))
     (λ c.
     let d = c .before .before in
-    rw (← d .before .before .bit .ensures, d .before .if1 .left, ← d .counted2 .ensures, lt-leb _ _ (c .if3 .left))))
+    rw (← d .before .before .bit .ensures, d .before .if1 .left, ← d .counted2 .ensures _ (d .before .before .before .pre .0), lt-leb _ _ (c .if3 .left))))

@@ -12,6 +12,7 @@ use Rattle.walk.specs.declared.end.Ending.{Ending}
 use Rattle.stages.specs.Stage1.{top}
 use Rattle.stages.specs.Ranges.{boundsOf}
 use Rattle.stages.specs.Calls.{stage1Of}
+use Rattle.stages.proofs.Ranges.{counting-of}
 use Rattle.stages.proofs.stage1.off.Statement.{statement}
 use Rattle.stages.proofs.stage1.off.Tie as tie
 
@@ -34,7 +35,7 @@ unfolding pick
 off-spec =
     tie.close
     (tie.spec
-    (λ c κs. search needs)
+    (λ c κs. counting-of _ _ (c .before .pre .0 .bounds))
     (λ c. rw (← inside (c .before), not-true (c .before .in-pamax .result) (c .if1 .taken)))
     (λ c. rw (← inside (c .before .before), not-false (c .before .before .in-pamax .result) (c .before .if1 .left), device-tested, c .if2 .taken))
     (λ c κs. search needs)

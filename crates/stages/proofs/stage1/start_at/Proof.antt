@@ -6,7 +6,7 @@ use Rattle.walk.specs.Ends.{faulted}
 use Rattle.stages.specs.Stage1.{root1At}
 use Rattle.stages.specs.Ranges.{rangeAt, rootAt}
 use Rattle.stages.specs.Calls.{stage1Of}
-use Rattle.stages.proofs.Ranges.{root1-range}
+use Rattle.stages.proofs.Ranges.{counting-of, root1-range}
 use Rattle.stages.proofs.stage1.start_at.Statement.{statement}
 use Rattle.stages.proofs.stage1.start_at.Tie as tie
 
@@ -24,7 +24,7 @@ unfolding faulted rootAt
 start-at-spec =
     tie.close
     (tie.spec
-    (λ c κs. search needs)
+    (λ c κs. counting-of _ _ (c .before .before .before .pre .0 .bounds))
     (λ c. search needs)
     (λ c. search needs)
     (λ c. search needs)
