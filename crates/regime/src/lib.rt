@@ -173,15 +173,18 @@ pub fn prepared2(r: El2) -> Prepared2
     let hcr = r.hcr;
     let vtcr = r.vtcr;
     let inputsize = 64 - vtcr.t0sz();
+    let cd = hcr.cd();
+    let id = hcr.id();
+    let ptw = hcr.ptw();
     if settings::stage2_on(r) {
         Prepared2 {
             on: true,
             inputsize,
             limit: turn::limit(inputsize),
             start: start2(r),
-            cd: hcr.cd(),
-            id: hcr.id(),
-            ptw: hcr.ptw(),
+            cd,
+            id,
+            ptw,
         }
     } else {
         Prepared2 {
@@ -189,9 +192,9 @@ pub fn prepared2(r: El2) -> Prepared2
             inputsize,
             limit: 0,
             start: start::nowhere(Ending::Translation, 0),
-            cd: hcr.cd(),
-            id: hcr.id(),
-            ptw: hcr.ptw(),
+            cd,
+            id,
+            ptw,
         }
     }
 }
