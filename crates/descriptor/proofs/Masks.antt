@@ -1,15 +1,15 @@
 -- A geometry's masks: what they keep of a word, and that each is a word.
 -- Assumes nothing.
 use mathlib.Core.Path.{_≡_, refl, sym, ap, _∙_, subst}
-use mathlib.Core.Bool.{Bool, true, false}
-use Prim.Native.Nat.{ℕ, _-_, _*_, _/_, _%_, _^_, _≤_, _<_}
+use mathlib.Core.Bool.{Bool, true, false, not, _&&_}
+use Prim.Native.Nat.{ℕ, zero, suc, _-_, _*_, _/_, _%_, _^_, _≤_, _<_}
 use native.Mathlib.Nat.{mod-lt, div-eq-of-lt, div-mul-le-self, le-div-iff-mul-le, sub-add-cancel, lt-of-lt-of-le, lt-of-le-of-lt}
 use native.Mathlib.Omega.{arith}
 use borrow.Author.Tests.{leb-true, leb-false, lt-leb, lt-ltb}
-use lib.Dec.{leb, ltb}
+use lib.Dec.{leb, ltb, eqb}
 use lib.Pow.{pow-pos, pow-mono, field}
-use lib.Bits.{bitAnd, and-high}
-use Rattle.bits.specs.Bits.{pick, upper, beyond}
+use lib.Bits.{bitAnd, and-high, and-zero-r}
+use Rattle.bits.specs.Bits.{pick, bit, upper, beyond}
 use Rattle.bits.proofs.Shifts.{shifted-out, low-48}
 use Rattle.descriptor.specs.Turn.{limit}
 
@@ -46,3 +46,15 @@ index-small x k h = lt-of-lt-of-le (mod-lt x (pow-pos k)) (pow-mono h)
 
 pub upper-small : (x k : ℕ) → upper x k < 2 ^ 48
 upper-small x k = lt-of-le-of-lt (div-mul-le-self (x % 2 ^ 48) (2 ^ k)) (low-48 x)
+
+-- the contiguous bit by its mask, of the largest block (a) of a small input size (b)
+pub and-contiguous : (x : ℕ) (a b : Bool) → (a && not (eqb (bitAnd x (pick b (2 ^ 52) 0)) 0)) ≡ (a && b && bit x 52)
+unfolding pick
+and-contiguous x true true = rw (and-high x 1 52) (set (x / 2 ^ 52 % 2) (mod-lt _ (pow-pos 1)))
+  where
+    set : (d : ℕ) → d < 2 → not (eqb (d * 2 ^ 52) 0) ≡ eqb d 1
+    set zero h = refl
+    set (suc zero) h = refl
+    set (suc (suc d)) h = absurd (omega arith)
+and-contiguous x true false = rw (and-zero-r x)
+and-contiguous x false b = refl

@@ -1,11 +1,11 @@
--- Where an entry leads: its type by bits 1:0 in one, and what a turn says of the entry.
+-- Where an entry leads: the turn by its tests, and what a turn says of the entry.
 -- Assumes nothing.
 use mathlib.Core.Path.{_≡_, refl}
 use mathlib.Core.Bool.{Bool, true, false}
-use Prim.Native.Nat.{ℕ, zero, suc, _/_, _%_, _^_, _<_}
+use Prim.Native.Nat.{ℕ, zero, suc, _≤_, _<_}
 use native.Mathlib.Omega.{arith}
-use borrow.Author.Tests.{eq-eqb, ne-eqb}
-use lib.Dec.{leb, eqb}
+use borrow.Author.Tests.{eqb-true, ne-eqb}
+use lib.Dec.{eqb}
 use Rattle.bits.specs.Bits.{pick, bit, upper, beyond}
 use Rattle.descriptor.specs.Entry.{descriptorType, contiguous, decodeAs, decode}
 use Rattle.descriptor.specs.Turn.{turnOf}
@@ -33,26 +33,39 @@ abbrev leafBy : Bool → Bool → Bool → Entry
 leafBy a b c = pick a Entry.Unsettled (pick b (Entry.Fault AddressSize) (pick c Entry.Final (Entry.Fault AccessFlag)))
 
 module _ (g : Geometry) (n x : ℕ) where
-  -- ---- the type, by both bits at once
-  pub type-11 : x % 4 ≡ 3 → descriptorType g n x ≡ pick (eqb n 0) Leaf Table
-  unfolding descriptorType pick
-  type-11 h =
-      let low : x / 2 ^ 0 % 2 ≡ 1 = omega arith in
-      let high : x / 2 ^ 1 % 2 ≡ 1 = omega arith in
-      rw (eq-eqb _ _ low, eq-eqb _ _ high)
+  -- ---- the turn, by its tests
+  pub settled-leaf : contiguous g n x ≡ false
+      → turnOf (decodeAs g n x Leaf) ≡ pick (beyond x (g .outputsize)) Turn.AddressSize (pick (bit x 10) Turn.Leaf Turn.AccessFlag)
+  unfolding decodeAs turnOf pick
+  settled-leaf e = rw e (by-tests (beyond x (g .outputsize)) (bit x 10))
+    where
+      by-tests : (b c : Bool) → turnOf (leafBy false b c) ≡ pick b Turn.AddressSize (pick c Turn.Leaf Turn.AccessFlag)
+      by-tests true c = refl
+      by-tests false true = refl
+      by-tests false false = refl
 
-  pub type-01 : x % 4 ≡ 1 → descriptorType g n x ≡ pick (eqb n 0) Invalid (pick (leb n (g .block)) Leaf Invalid)
-  unfolding descriptorType pick
-  type-01 h =
-      let low : x / 2 ^ 0 % 2 ≡ 1 = omega arith in
-      let high : x / 2 ^ 1 % 2 ≡ 1 → ⊥ = λ e. omega arith in
-      rw (eq-eqb _ _ low, ne-eqb _ _ high)
+  table-turn : turnOf (decodeAs g n x Table) ≡ pick (beyond x (g .outputsize)) Turn.AddressSize Turn.Down
+  unfolding decodeAs turnOf pick
+  table-turn = by-test (beyond x (g .outputsize)) (upper x (g .grainsize))
+    where
+      by-test : (b : Bool) (t : ℕ) → turnOf (pick b (Entry.Fault AddressSize) (Entry.Next t)) ≡ pick b Turn.AddressSize Turn.Down
+      by-test true t = refl
+      by-test false t = refl
 
-  pub type-0 : (x % 4 ≡ 3 → ⊥) → (x % 4 ≡ 1 → ⊥) → descriptorType g n x ≡ Invalid
+  -- of type 11: a page lies below every block, so its contiguous bit leaves nothing open
+  pub type-11 : bit x 0 ≡ true → bit x 1 ≡ true → 1 ≤ g .block
+      → turnOf (decode g n x)
+      ≡ pick (beyond x (g .outputsize)) Turn.AddressSize (pick (eqb n 0) (pick (bit x 10) Turn.Leaf Turn.AccessFlag) Turn.Down)
   unfolding descriptorType pick
-  type-0 h l =
-      let low : x / 2 ^ 0 % 2 ≡ 1 → ⊥ = λ e. omega arith in
-      rw (ne-eqb _ _ low)
+  type-11 low high h = rw (low, high) (by-test (eqb n 0) refl)
+    where
+      by-test : (b : Bool) → eqb n 0 ≡ b
+          → turnOf (decodeAs g n x (pick b Leaf Table))
+          ≡ pick (beyond x (g .outputsize)) Turn.AddressSize (pick b (pick (bit x 10) Turn.Leaf Turn.AccessFlag) Turn.Down)
+      by-test true e =
+          let page : n ≡ 0 = eqb-true n 0 e in
+          settled-leaf (rw (ne-eqb n (g .block) (λ q. omega arith)))
+      by-test false e = table-turn
 
   -- ---- what a turn says of the entry
   entry-as : (d : DescriptorType) → decodeAs g n x d ≡ entryOf (upper x (g .grainsize)) (turnOf (decodeAs g n x d))

@@ -20,7 +20,7 @@ abbrev pub masksOf : Geometry → Masks
 masksOf g =
     record {
       limit = limit (g .outputsize);
-      unsettled = ltb (g .inputsize) (g .contiguous);
+      unsettled = pick (ltb (g .inputsize) (g .contiguous)) (2 ^ 52) 0;
       index = 2 ^ g .stride - 1;
       table = 2 ^ 48 - 2 ^ g .grainsize;
     }

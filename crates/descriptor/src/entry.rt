@@ -41,8 +41,8 @@ pub enum Entry {
 pub struct Masks {
     // An address from here on is beyond the output size.
     pub limit: u64,
-    // A block with the most levels below it and its contiguous bit set is unsettled.
-    pub unsettled: bool,
+    // Of the contiguous bit, where a block with the most levels below it and that bit set is unsettled; 0 where it is not.
+    pub unsettled: u64,
     // Of an index into a table.
     pub index: u64,
     // Of a table's address.

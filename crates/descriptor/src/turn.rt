@@ -5,10 +5,11 @@ use crate::entry::Masks;
 use crate::entry::Turn;
 use bits::bit;
 ghost use mathlib.Core.Path.{_≡_};
-ghost use mathlib.Core.Bool.{false};
-ghost use Prim.Native.Nat.{_+_, _*_, _%_, _≤_, _<_};
+ghost use mathlib.Core.Bool.{true, false};
+ghost use Prim.Native.Nat.{_+_, _*_, _≤_, _<_};
 ghost use Rattle.bits.specs.Bits as Bits;
 ghost use Rattle.descriptor.specs.declared.entry.DescriptorType.the-variants as DescriptorType;
+ghost use Rattle.descriptor.specs.declared.entry.Turn.the-variants as Ways;
 ghost use Rattle.descriptor.specs.Entry as Entries;
 ghost use Rattle.descriptor.specs.Turn as Turns;
 
@@ -23,6 +24,19 @@ pub fn limit(size: u64) -> u64
     }
 }
 
+// Bit 52, the contiguous bit, where it leaves the largest block unsettled.
+fn unsettled(g: Geometry) -> u64
+    ensures { λ r. ⌜ r ≡ Turns.masksOf g .unsettled ⌝ }
+{
+    let inputsize = g.inputsize;
+    let least = g.contiguous;
+    if inputsize < least {
+        0x10_0000_0000_0000
+    } else {
+        0
+    }
+}
+
 // The words for a geometry.
 pub fn masks(g: Geometry) -> Masks
     requires { ⌜ (g .grainsize ≤ 16) × (g .stride ≤ 13) ⌝ }
@@ -30,12 +44,10 @@ pub fn masks(g: Geometry) -> Masks
 {
     let grainsize = g.grainsize;
     let stride = g.stride;
-    let inputsize = g.inputsize;
     let outputsize = g.outputsize;
-    let least = g.contiguous;
     Masks {
         limit: limit(outputsize),
-        unsettled: inputsize < least,
+        unsettled: unsettled(g),
         index: (1 << stride) - 1,
         table: 0x1_0000_0000_0000 - (1 << grainsize),
     }
@@ -56,38 +68,35 @@ fn contiguous(g: Geometry, m: Masks, n: u64, x: u64) -> bool
     ensures { λ r. ⌜ r ≡ Entries.contiguous g n x ⌝ }
 {
     let block = g.block;
-    (n == block) & m.unsettled & bit(x, 52)
+    (n == block) & (x & m.unsettled != 0)
 }
 
-// A table's entry: the next table, or an address beyond the output size.
-fn table(g: Geometry, m: Masks, n: u64, x: u64) -> Turn
-    requires { ⌜ m ≡ Turns.masksOf g ⌝ }
-    ensures { λ r. ⌜ r ≡ Turns.turnOf (Entries.decodeAs g n x DescriptorType.Table) ⌝ }
+// A page or a block within the output size: bit 10 is its access flag.
+fn flagged(x: u64) -> Turn
+    ensures { λ r. ⌜ r ≡ Bits.pick (Bits.bit x 10) Ways.Leaf Ways.AccessFlag ⌝ }
 {
-    if outside(g, m, x) {
-        Turn::AddressSize
-    } else {
-        Turn::Down
-    }
-}
-
-// A page's or a block's entry that is settled; bit 10 is its access flag.
-fn leaf(g: Geometry, m: Masks, n: u64, x: u64) -> Turn
-    requires { ⌜ (m ≡ Turns.masksOf g) × (Entries.contiguous g n x ≡ false) ⌝ }
-    ensures { λ r. ⌜ r ≡ Turns.turnOf (Entries.decodeAs g n x DescriptorType.Leaf) ⌝ }
-{
-    if outside(g, m, x) {
-        Turn::AddressSize
-    } else if bit(x, 10) {
+    if bit(x, 10) {
         Turn::Leaf
     } else {
         Turn::AccessFlag
     }
 }
 
+// A page's or a block's entry that is settled.
+fn leaf(g: Geometry, m: Masks, n: u64, x: u64) -> Turn
+    requires { ⌜ (m ≡ Turns.masksOf g) × (Entries.contiguous g n x ≡ false) ⌝ }
+    ensures { λ r. ⌜ r ≡ Turns.turnOf (Entries.decodeAs g n x DescriptorType.Leaf) ⌝ }
+{
+    if outside(g, m, x) {
+        Turn::AddressSize
+    } else {
+        flagged(x)
+    }
+}
+
 // An entry of type 01: a block, where there may be one.
 fn block(g: Geometry, m: Masks, n: u64, x: u64) -> Turn
-    requires { ⌜ (m ≡ Turns.masksOf g) × (x % 4 ≡ 1) ⌝ }
+    requires { ⌜ (m ≡ Turns.masksOf g) × (Bits.bit x 0 ≡ true) × (Bits.bit x 1 ≡ false) ⌝ }
     ensures { λ r. ⌜ r ≡ Turns.turnOf (Entries.decode g n x) ⌝ }
 {
     let most = g.block;
@@ -102,22 +111,25 @@ fn block(g: Geometry, m: Masks, n: u64, x: u64) -> Turn
     }
 }
 
-// Where the entry x, with n levels below it, leads.
+// Where the entry x, with n levels below it, leads. Most entries on a walk are tables', so their tests come first, and a page's address is
+// tested with a table's.
 pub fn turn(g: Geometry, m: Masks, n: u64, x: u64) -> Turn
     requires { ⌜ (m ≡ Turns.masksOf g) × (1 ≤ g .block) ⌝ }
     ensures { λ r. ⌜ r ≡ Turns.turnOf (Entries.decode g n x) ⌝ }
 {
-    if x % 4 == 3 {
-        if n == 0 {
-            leaf(g, m, n, x)
-        } else {
-            table(g, m, n, x)
-        }
-    } else if x % 4 == 1 {
-        block(g, m, n, x)
-    } else {
-        Turn::Translation
+    if !bit(x, 0) {
+        return Turn::Translation;
     }
+    if !bit(x, 1) {
+        return block(g, m, n, x);
+    }
+    if outside(g, m, x) {
+        return Turn::AddressSize;
+    }
+    if n != 0 {
+        return Turn::Down;
+    }
+    flagged(x)
 }
 
 // The address of the entry below: in the table that the entry x leads to, for the input's index at a shift.

@@ -44,7 +44,7 @@ pub fn nowhere(ending: Ending, level: u64) -> Start
         shift: 0,
         masks: Masks {
             limit: 0,
-            unsettled: false,
+            unsettled: 0,
             index: 0x1ff,
             table: 0xffff_ffff_f000,
         },

@@ -1,6 +1,7 @@
 -- `turn::contiguous` meets its contract.
 -- Assumes nothing.
-use borrow.Author.Needs.{needs}
+use lib.Dec.{eqb, ltb}
+use Rattle.descriptor.proofs.Masks.{and-contiguous}
 use Rattle.descriptor.proofs.turn.contiguous.Statement.{statement}
 use Rattle.descriptor.proofs.turn.contiguous.Tie as tie
 
@@ -8,5 +9,4 @@ pub contiguous-spec : {M : Type 1} → statement M
 contiguous-spec =
     tie.close
     (tie.spec
-    (λ c κs. search needs)
-    (λ c. simp (c .bit .ensures, c .before .before .pre)))
+    (λ c. let s = c .before .args in rw (c .before .pre) (and-contiguous (s .x) (eqb (s .n) (s .g .block)) (ltb (s .g .inputsize) (s .g .contiguous)))))

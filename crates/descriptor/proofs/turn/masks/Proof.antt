@@ -12,8 +12,9 @@ masks-spec =
     tie.close
     (tie.spec
     (λ c κs. search needs)
+    (λ c κs. search needs)
     (λ c. search needs)
-    (λ c. rw (one-shl (c .before .args .g .stride) (omega arith)) (pow-pos (c .before .args .g .stride)))
+    (λ c. rw (one-shl (c .before .before .args .g .stride) (omega arith)) (pow-pos (c .before .before .args .g .stride)))
     (λ c. search needs)
-    (λ c. rw (one-shl (c .before .args .g .grainsize) (omega arith)) (omega (arith, pow-mono (c .before .pre .0))))
-    (λ c. rw (one-shl (c .before .args .g .stride) (omega arith), one-shl (c .before .args .g .grainsize) (omega arith), c .limit .ensures)))
+    (λ c. rw (one-shl (c .before .before .args .g .grainsize) (omega arith)) (omega (arith, pow-mono (c .before .before .pre .0))))
+    (λ c. rw (one-shl (c .before .before .args .g .stride) (omega arith), one-shl (c .before .before .args .g .grainsize) (omega arith), c .unsettled .ensures, c .before .limit .ensures)))
