@@ -1,14 +1,10 @@
 // The stages of a walk, as registers give them (01, Walk).
 ghost use mathlib.Core.Path.{_≡_};
 ghost use Prim.Native.Nat.{_≤_, _<_};
-ghost use mathlib.Core.Bool.{true, false, _&&_, _||_};
+ghost use mathlib.Core.Bool.{false, _&&_, _||_};
 ghost use lib.Dec.{leb};
 ghost use lib.IntN.{pos};
 ghost use lib.Signed.{ltZ};
-ghost use Rattle.bits.specs.Bits.{pick};
-ghost use Rattle.descriptor.specs.declared.entry.FaultKind.the-variants.{Translation};
-ghost use Rattle.walk.specs.declared.table.Root.the-variants.{Unusable};
-ghost use Rattle.descriptor.specs.Turn.{limit};
 ghost use Rattle.walk.specs.Calls.{Small, Starts, Sound2, stage2Of};
 ghost use Rattle.stages.specs.Calls.{Sound1, stage1Of, memoryOf};
 ghost use Rattle.settings.specs.Settings.{settings};

@@ -28,6 +28,7 @@ use Rattle.walk.specs.declared.stop.Stage.{Stage}
 use Rattle.walk.specs.declared.stop.Stage.the-variants.{One, Two}
 use Rattle.walk.specs.declared.stop.Stop.{Stop}
 use Rattle.walk.specs.declared.table.Leaf.{Leaf}
+use Rattle.walk.specs.declared.check.Output.{Output}
 use Rattle.walk.specs.declared.end.Ending.{Ending}
 use Rattle.walk.specs.declared.end.Ending.the-variants as E
 use Rattle.walk.specs.declared.end.End.{End}
@@ -36,7 +37,7 @@ use Rattle.walk.proofs.Ends.{outcome-passed, outcome-stopped, over-stops, ran-g
 use Rattle.walk.proofs.Turns.{leafAt, req, Walking, walking-stopped, walking-absent, walking-leaf, walking-over, walking-down}
 use Rattle.stages.specs.Stage1.{place1, root1At, uncached1, denied1, check1, translate1}
 use Rattle.stages.specs.Stages.{finish, access}
-use Rattle.stages.specs.Calls.{finishedAt, outputOf, leafLevel, stageBy, arrived, atFirst, ending1, Seconded}
+use Rattle.stages.specs.Calls.{finishedAt, outputOf, leafLevel, stageBy, arrived, atFirst, asItIs, ending1}
 use Rattle.stages.specs.declared.stage1.Stage1.{Stage1}
 use Rattle.stages.specs.declared.both.Translation.{Translation}
 use Rattle.stages.specs.declared.both.By.{By}
@@ -53,14 +54,29 @@ ran-outcome {A} {B} m {p} f s v w e {log} {l} {k} {end} q = by-passed (passed (e
 
 -- ---- stage 2
 
+-- what it gives, if it is on, of a stage 1 descriptor's address, and of stage 1's output
+pub record Seconded (m : Request → Read) (s : Stage2) (a : Access) (w : Bool) (ipa : ℕ) (log : List ℕ) (count : ℕ) (r : End) (log′ : List ℕ) : Type 0 where
+  pub placed : w ≡ true → Ran m (place1 s a ipa) log count (outcome (Two ipa true) (r .address) r) (r .count) log′
+  pub finished : w ≡ false → (o : Output) → o .address ≡ ipa → Ran m (finish s a o) log count (outcome (Two ipa false) (finishedAt s a o r) r) (r .count) log′
+
+-- where it puts a stage 1 descriptor, or the IPA as it is where it is off
+pub record Placed (m : Request → Read) (s : Stage2) (a : Access) (walking : Bool) (ipa : ℕ) (log : List ℕ) (count place count′ : ℕ) (log′ : List ℕ) : Type 0 where
+  pub walks : walking ≡ true
+  pub run : Ran m (place1 s a ipa) log count (reached place) count′ log′
+  pub few : count′ ≤ count + 4
+
 module _ (m : Request → Read) (s : Stage2) (a : Access) (ipa : ℕ) {log : List ℕ} {count : ℕ} where
-  pub seconded-off : (w : Bool) → s .on ≡ false → Seconded m s a w ipa log count (record { ending = E.Passed; address = ipa; word = 0; level = 0; count = count }) log
+  pub seconded-off : (w : Bool) → s .on ≡ false → Seconded m s a w ipa log count (asItIs ipa count) log
   unfolding place1 finish outcome passed pick
   seconded-off w off =
       record {
         placed = λ _. ran-false m _ off (ran-done m ipa log count);
         finished = λ _ o e. ran-false m _ off (rw (e, pick-false (s .on) (combine (o .attributes) (settledPart (stage2Attributes (uncached2 s a false) 0))) (o .attributes) off) (ran-done m _ log count));
       }
+
+  pub placed-off : {w : Bool} → s .on ≡ false → w ≡ true → Placed m s a w ipa log count ipa count log
+  unfolding place1
+  placed-off off e = record { walks = e; run = ran-false m _ off (ran-done m ipa log count); few = omega arith }
 
   module _ (on : s .on ≡ true) {log′ : List ℕ} where
     pub seconded-on : (w : Bool) (r : End) → Ran m (translate2 s a w ipa) log count (ended (Two ipa w) (stage2Attributes (uncached2 s a w)) r) (r .count) log′ → Seconded m s a w ipa log count r log′
@@ -157,65 +173,66 @@ module _ {m : Request → Read} {s1 : Stage1} {s2 : Stage2} {a : Access} {g : Ge
           (stopped-walk m s1 s2 a (i .0) (walking-stopped (i .1) (rw (outcome-stopped (Two ipa true) (r .address) r p) at (x .placed e))))
       by-walking false e = going-ends e
 
-  -- ---- at an entry that is placed
+  pub placed-on : passed (r .ending) ≡ true → walking ≡ true → r .count ≤ k + 4 → Placed m s2 a walking ipa log k (r .address) (r .count) log₁
+  placed-on p e few = record { walks = e; run = rw (outcome-passed (Two ipa true) (r .address) r p) at (x .placed e); few = few }
 
-  module _ (on : walking ≡ true) (p : passed (r .ending) ≡ true) where
-    placed : Ran m (place1 s2 a ipa) log k (reached (r .address)) (r .count) log₁
-    placed = rw (outcome-passed (Two ipa true) (r .address) r p) at (x .placed on)
+-- ---- at an entry that is placed
 
-    abbrev At : Read → Type 0
-    At f = m (req m (place1 s2 a) g One (a .address) (r .address)) ≡ f
+module _ {m : Request → Read} {s1 : Stage1} {s2 : Stage2} {a : Access} {g : Geometry} {log₀ log : List ℕ} {walking : Bool} {left t ipa tables word1 k : ℕ}
+    (now : Going m s1 s2 a g log₀ log walking left t ipa tables word1 k) {place k′ : ℕ} {log₁ : List ℕ} (x : Placed m s2 a walking ipa log k place k′ log₁) where
+  abbrev At : Read → Type 0
+  At f = m (req m (place1 s2 a) g One (a .address) place) ≡ f
 
-    pub going-absent : (e : End) → e .ending ≡ E.Absent → e .address ≡ r .address → e .level ≡ 3 - left → At Absent → Ran m (access s1 s2 a) log₀ 0 (arrived s1 s2 a (atFirst e)) (r .count) log₁
-    unfolding passed stopBy
-    going-absent e q u v f =
-        let i = at-entry now on in
-        first-stopped m s1 s2 a e (rw q) (rw (q, u, v) (stopped-walk m s1 s2 a (i .0) (walking-absent (i .1) placed f)))
+  pub going-absent : (e : End) → e .ending ≡ E.Absent → e .address ≡ place → e .level ≡ 3 - left → At Absent → Ran m (access s1 s2 a) log₀ 0 (arrived s1 s2 a (atFirst e)) k′ log₁
+  unfolding passed stopBy
+  going-absent e q u v f =
+      let i = at-entry now (x .walks) in
+      first-stopped m s1 s2 a e (rw q) (rw (q, u, v) (stopped-walk m s1 s2 a (i .0) (walking-absent (i .1) (x .run) f)))
 
-    module _ {y : ℕ} (f : At (Word y)) where
-      abbrev Log : List ℕ
-      Log = set log₁ (r .count) (r .address)
+  module _ {y : ℕ} (f : At (Word y)) where
+    abbrev Log : List ℕ
+    Log = set log₁ k′ place
 
-      pub going-down : leadsDown (turnOf (decode g left y)) ≡ true → 0 < left → r .count ≤ k + 4 →
-          Going m s1 s2 a g log₀ Log walking (left - 1) (t - g .stride) (upper y (g .grainsize) + 8 * field (a .address) (t - g .stride) (g .stride)) (bitOr tables y) word1 (r .count + 1)
-      going-down d more c =
-          let i = at-entry now on in
-          walks on (i .0) (rw (imposed-or tables y) (walking-down (i .1) placed f d more)) (omega (arith, i .2))
+    pub going-down : leadsDown (turnOf (decode g left y)) ≡ true → 0 < left →
+        Going m s1 s2 a g log₀ Log walking (left - 1) (t - g .stride) (upper y (g .grainsize) + 8 * field (a .address) (t - g .stride) (g .stride)) (bitOr tables y) word1 (k′ + 1)
+    going-down d more =
+        let i = at-entry now (x .walks) in
+        walks (x .walks) (i .0) (rw (imposed-or tables y) (walking-down (i .1) (x .run) f d more)) (omega (arith, i .2, x .few))
 
-      module _ (not-down : leadsDown (turnOf (decode g left y)) ≡ false) (e : Ending) (is : e ≡ pick (isLeaf (turnOf (decode g left y))) (ending1 s1 a tables y) (over (turnOf (decode g left y)))) where
-        -- the end at a leaf
-        abbrev reading : ℕ → End
-        reading z = record { ending = e; address = outputAddress z t (a .address); word = z; level = 3 - left; count = 0 }
+    module _ (not-down : leadsDown (turnOf (decode g left y)) ≡ false) (e : Ending) (is : e ≡ pick (isLeaf (turnOf (decode g left y))) (ending1 s1 a tables y) (over (turnOf (decode g left y)))) where
+      -- the end at a leaf
+      abbrev reading : ℕ → End
+      reading z = record { ending = e; address = outputAddress z t (a .address); word = z; level = 3 - left; count = 0 }
 
-        leaf-ended : isLeaf (turnOf (decode g left y)) ≡ true → Ran m (translate1 s1 (root1At s1 (a .address)) s2 a) log₀ 0 (ended One (stage1Attributes (s1 .mair) (uncached1 s1 a)) (reading y)) (r .count + 1) Log
-        unfolding pick
-        leaf-ended l =
-            let i = at-entry now on in
-            checked-leaf m s1 s2 a (leafAt g left y (imposed tables)) (reading y) (i .0) (walking-leaf (i .1) placed f l) (rw (i .1 .shifted)) refl refl (rw l at is)
+      leaf-ended : isLeaf (turnOf (decode g left y)) ≡ true → Ran m (translate1 s1 (root1At s1 (a .address)) s2 a) log₀ 0 (ended One (stage1Attributes (s1 .mair) (uncached1 s1 a)) (reading y)) (k′ + 1) Log
+      unfolding pick
+      leaf-ended l =
+          let i = at-entry now (x .walks) in
+          checked-leaf m s1 s2 a (leafAt g left y (imposed tables)) (reading y) (i .0) (walking-leaf (i .1) (x .run) f l) (rw (i .1 .shifted)) refl refl (rw l at is)
 
-        -- a leaf that passes
-        pub going-leaf : passed e ≡ true → r .count ≤ k + 4 → Going m s1 s2 a g log₀ Log false left t (outputAddress y t (a .address)) tables y (r .count + 1)
-        unfolding pick
-        going-leaf q c = by-leaf (isLeaf (turnOf (decode g left y))) refl
-          where
-            by-leaf : (b : Bool) → isLeaf (turnOf (decode g left y)) ≡ b → Going m s1 s2 a g log₀ Log false left t (outputAddress y t (a .address)) tables y (r .count + 1)
-            by-leaf true l =
-                let i = at-entry now on in
-                ends refl
-                (rw (pick-true (s1 .on) (settledPart (stage1Attributes (s1 .mair) (uncached1 s1 a) y)) _ (i .0), pick-true (s1 .on) (3 - left) 0 (i .0))
-                (rw (outcome-passed One _ (reading y) q) at (leaf-ended l)))
-                (omega (arith, i .2))
-            by-leaf false l = absurd (true≢false (sym q ∙ rw (is, l) (over-stops _ not-down l)))
+      -- a leaf that passes
+      pub going-leaf : passed e ≡ true → Going m s1 s2 a g log₀ Log false left t (outputAddress y t (a .address)) tables y (k′ + 1)
+      unfolding pick
+      going-leaf q = by-leaf (isLeaf (turnOf (decode g left y))) refl
+        where
+          by-leaf : (b : Bool) → isLeaf (turnOf (decode g left y)) ≡ b → Going m s1 s2 a g log₀ Log false left t (outputAddress y t (a .address)) tables y (k′ + 1)
+          by-leaf true l =
+              let i = at-entry now (x .walks) in
+              ends refl
+              (rw (pick-true (s1 .on) (settledPart (stage1Attributes (s1 .mair) (uncached1 s1 a) y)) _ (i .0), pick-true (s1 .on) (3 - left) 0 (i .0))
+              (rw (outcome-passed One _ (reading y) q) at (leaf-ended l)))
+              (omega (arith, i .2, x .few))
+          by-leaf false l = absurd (true≢false (sym q ∙ rw (is, l) (over-stops _ not-down l)))
 
-        -- a leaf that does not, or no leaf
-        pub going-over : passed e ≡ false → Ran m (access s1 s2 a) log₀ 0 (arrived s1 s2 a (atFirst (stoppedBy e (3 - left) (r .count + 1)))) (r .count + 1) Log
-        unfolding access pick
-        going-over q = first-stopped m s1 s2 a (stoppedBy e (3 - left) (r .count + 1)) q (by-leaf (isLeaf (turnOf (decode g left y))) refl)
-          where
-            by-leaf : (b : Bool) → isLeaf (turnOf (decode g left y)) ≡ b → Ran m (access s1 s2 a) log₀ 0 (stopped (stopBy One 0 (3 - left) e)) (r .count + 1) Log
-            by-leaf true l =
-                let anywhere : stopBy One 0 (3 - left) e ≡ stopBy One (outputAddress y t (a .address)) (3 - left) e = rw (is, l) (verdict-anywhere One 0 (outputAddress y t (a .address)) (3 - left) _ _ _) in
-                rw anywhere (ran-stopped m (finish s2 a) (rw (outcome-stopped One _ (reading y) q) at (leaf-ended l)))
-            by-leaf false l =
-                let i = at-entry now on in
-                rw (is, l) (stopped-walk m s1 s2 a (i .0) (walking-over (i .1) placed f 0 not-down l))
+      -- a leaf that does not, or no leaf
+      pub going-over : passed e ≡ false → Ran m (access s1 s2 a) log₀ 0 (arrived s1 s2 a (atFirst (stoppedBy e (3 - left) (k′ + 1)))) (k′ + 1) Log
+      unfolding access pick
+      going-over q = first-stopped m s1 s2 a (stoppedBy e (3 - left) (k′ + 1)) q (by-leaf (isLeaf (turnOf (decode g left y))) refl)
+        where
+          by-leaf : (b : Bool) → isLeaf (turnOf (decode g left y)) ≡ b → Ran m (access s1 s2 a) log₀ 0 (stopped (stopBy One 0 (3 - left) e)) (k′ + 1) Log
+          by-leaf true l =
+              let anywhere : stopBy One 0 (3 - left) e ≡ stopBy One (outputAddress y t (a .address)) (3 - left) e = rw (is, l) (verdict-anywhere One 0 (outputAddress y t (a .address)) (3 - left) _ _ _) in
+              rw anywhere (ran-stopped m (finish s2 a) (rw (outcome-stopped One _ (reading y) q) at (leaf-ended l)))
+          by-leaf false l =
+              let i = at-entry now (x .walks) in
+              rw (is, l) (stopped-walk m s1 s2 a (i .0) (walking-over (i .1) (x .run) f 0 not-down l))

@@ -2,13 +2,10 @@
 -- Assumes nothing.
 use mathlib.Core.Path.{_≡_}
 use mathlib.Core.Bool.{Bool, true, false, not, _&&_, _||_}
-use mathlib.Core.List.{List}
 use Prim.Native.Nat.{ℕ, suc, _+_, _-_, _*_, _/_, _%_, _^_, _<_}
 use lib.Dec.{eqb}
 use Rattle.bits.specs.Bits.{pick, field}
-use Rattle.reads.specs.Program.{Request, Outcome, reached, stopped}
-use Rattle.reads.specs.Ran.{Ran}
-use Rattle.reads.specs.declared.Read.{Read}
+use Rattle.reads.specs.Program.{Outcome, reached, stopped}
 use Rattle.access.specs.Access.{isFetch, unaligned}
 use Rattle.access.specs.declared.Access.{Access}
 use Rattle.attributes.specs.Attributes.{classOf, settledPart, stage1Attributes, stage2Attributes, stage1OffAttributes, combine}
@@ -30,8 +27,7 @@ use Rattle.walk.specs.declared.end.Ending.{Ending}
 use Rattle.walk.specs.declared.end.Ending.the-variants as E
 use Rattle.walk.specs.declared.end.End.{End}
 use Rattle.walk.specs.declared.stage2.Stage2.{Stage2}
-use Rattle.stages.specs.Stage1.{top, root1At, uncached1, place1}
-use Rattle.stages.specs.Stages.{finish}
+use Rattle.stages.specs.Stage1.{top, root1At, uncached1}
 use Rattle.stages.specs.Ranges.{boundsOf, Narrow}
 use Rattle.stages.specs.declared.stage1.Stage1.{Stage1}
 use Rattle.stages.specs.declared.stage1.Prepared1.{Prepared1}
@@ -80,6 +76,13 @@ arrived s1 s2 a r = outcome (stageBy (r .by) (r .ipa)) (finishedAt s2 a (outputO
 
 abbrev pub atFirst : End → Arrival
 atFirst e = record { by = First; end = e; ipa = 0; left1 = 0; word1 = 0 }
+
+-- an IPA as it is, where stage 2 is off
+abbrev pub asItIs : (ipa count : ℕ) → End
+asItIs ipa count = record { ending = E.Passed; address = ipa; word = 0; level = 0; count = count }
+
+abbrev pub atOutput : (ipa left1 word1 count : ℕ) → Arrival
+atOutput ipa left1 word1 count = record { by = Second; end = asItIs ipa count; ipa = ipa; left1 = left1; word1 = word1 }
 
 -- stages of which only what attributes go by is told
 abbrev nowhere : Root
@@ -152,8 +155,3 @@ pub data Opens (p : Prepared1) (a : Access) (o : Opening) : Type 0 where
   walks : p .on ≡ true → o .walking ≡ true → o .ending ≡ o .start .ending → o .level ≡ o .start .level → Starts (o .start) (root1At (stage1Of p) (a .address)) →
       o .ipa ≡ o .start .table .base + 8 * field (a .address) (o .start .shift) (o .start .table .bits) → Opens p a o
   passes : p .on ≡ false → o .walking ≡ false → o .ending ≡ offEnding (stage1Of p) a → o .level ≡ 0 → Within (o .start) → o .ipa ≡ a .address % 2 ^ 48 → Opens p a o
-
--- ---- stage 2, if it is on: of a stage 1 descriptor, and of stage 1's output
-pub record Seconded (m : Request → Read) (s : Stage2) (a : Access) (w : Bool) (ipa : ℕ) (log : List ℕ) (count : ℕ) (r : End) (log′ : List ℕ) : Type 0 where
-  pub placed : w ≡ true → Ran m (place1 s a ipa) log count (outcome (Two ipa true) (r .address) r) (r .count) log′
-  pub finished : w ≡ false → (o : Output) → o .address ≡ ipa → Ran m (finish s a o) log count (outcome (Two ipa false) (finishedAt s a o r) r) (r .count) log′

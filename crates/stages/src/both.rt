@@ -66,38 +66,29 @@ pub struct Arrival {
     pub word1: u64,
 }
 
-// Stage 2, if it is on; else an IPA is its own output.
-fn second(
-    bytes: &[u8],
-    base: u64,
-    p: Prepared2,
-    a: Access,
-    onwalk: bool,
-    ipa: u64,
-    log: &mut [u64],
-    count: usize,
-) -> End
-    requires { ⌜ Sound2 p × (listedSize (a .size) ≡ true) × (base + length (now bytes) ≤ 2 ^ 64) × (count + 4 ≤ length (now log)) ⌝ }
-    ensures { λ r. ⌜ Calls.Seconded (captured base (now (bytes .entry))) (stage2Of p) a onwalk ipa (now (log .entry)) count r (now (log .exit)) × (r .count ≤ count + 4) ⌝ }
+fn by_stage2(onwalk: bool) -> By
+    ensures { λ r. ⌜ r ≡ pick onwalk Bys.OnWalk Bys.Second ⌝ }
 {
-    let on = p.on;
-    if on {
-        stage2::translate2(bytes, base, p, a, onwalk, ipa, log, count)
-    } else {
-        End {
+    if onwalk { By::OnWalk } else { By::Second }
+}
+
+// Stage 1's output as it is, where stage 2 is off.
+fn unplaced(ipa: u64, left1: u64, word1: u64, count: usize) -> Arrival
+    ensures { λ r. ⌜ r ≡ Calls.atOutput ipa left1 word1 count ⌝ }
+{
+    Arrival {
+        by: By::Second,
+        end: End {
             ending: Ending::Passed,
             address: ipa,
             word: 0,
             level: 0,
             count,
-        }
+        },
+        ipa,
+        left1,
+        word1,
     }
-}
-
-fn by_stage2(onwalk: bool) -> By
-    ensures { λ r. ⌜ r ≡ pick onwalk Bys.OnWalk Bys.Second ⌝ }
-{
-    if onwalk { By::OnWalk } else { By::Second }
 }
 
 // An end at stage 1.
@@ -127,6 +118,7 @@ fn walk1(
     ensures { λ r. ⌜ Ran (captured base (now (bytes .entry))) (Stages.access (Calls.stage1Of p) (stage2Of q) a) (now (log .entry)) 0 (Calls.arrived (Calls.stage1Of p) (stage2Of q) a r) (r .end .count) (now (log .exit)) × (r .end .count ≤ 24) ⌝ }
 {
     let input = a.address;
+    let on = q.on;
     let start = o.start;
     let masks = start.masks;
     let table = start.table;
@@ -141,44 +133,20 @@ fn walk1(
     let mut word1 = 0;
     let mut k = 0;
     loop {
-        let r = second(bytes, base, q, a, walking, ipa, log, k);
-        let ending = r.ending;
-        if end::passed(ending) {
-            if walking {
-                k = r.count;
-                let at = r.address;
-                match capture::read(bytes, base, at) {
-                    Read::Absent => {
-                        return first(End {
-                            ending: Ending::Absent,
-                            address: at,
-                            word: 0,
-                            level: 3 - left,
-                            count: k,
-                        });
-                    }
-                    Read::Word(x) => {
-                        log[k] = at;
-                        k += 1;
-                        let turn = turn::turn(g, masks, left, x);
-                        if end::leads_down(turn) {
-                            left -= 1;
-                            shift -= stride;
-                            tables = tables | x;
-                            ipa = turn::next_entry(g, masks, x, input, shift);
-                        } else {
-                            let ended = stage1::at_entry(p, a, tables, turn, x);
-                            if end::passed(ended) {
-                                walking = false;
-                                ipa = entry::output_address(x, shift, input);
-                                word1 = x;
-                            } else {
-                                return first(end::stopped(ended, 3 - left, k));
-                            }
-                        }
-                    }
-                }
-            } else {
+        let mut at = ipa;
+        if on {
+            let r = stage2::translate2(bytes, base, q, a, walking, ipa, log, k);
+            let ending = r.ending;
+            if !end::passed(ending) {
+                return Arrival {
+                    by: by_stage2(walking),
+                    end: r,
+                    ipa,
+                    left1: left,
+                    word1,
+                };
+            }
+            if !walking {
                 return Arrival {
                     by: By::Second,
                     end: r,
@@ -187,14 +155,41 @@ fn walk1(
                     word1,
                 };
             }
-        } else {
-            return Arrival {
-                by: by_stage2(walking),
-                end: r,
-                ipa,
-                left1: left,
-                word1,
-            };
+            at = r.address;
+            k = r.count;
+        } else if !walking {
+            return unplaced(ipa, left, word1, k);
+        }
+        match capture::read(bytes, base, at) {
+            Read::Absent => {
+                return first(End {
+                    ending: Ending::Absent,
+                    address: at,
+                    word: 0,
+                    level: 3 - left,
+                    count: k,
+                });
+            }
+            Read::Word(x) => {
+                log[k] = at;
+                k += 1;
+                let turn = turn::turn(g, masks, left, x);
+                if end::leads_down(turn) {
+                    left -= 1;
+                    shift -= stride;
+                    tables = tables | x;
+                    ipa = turn::next_entry(g, masks, x, input, shift);
+                } else {
+                    let ended = stage1::at_entry(p, a, tables, turn, x);
+                    if end::passed(ended) {
+                        walking = false;
+                        ipa = entry::output_address(x, shift, input);
+                        word1 = x;
+                    } else {
+                        return first(end::stopped(ended, 3 - left, k));
+                    }
+                }
+            }
         }
     }
 }

@@ -1,6 +1,5 @@
 -- `below_start1` meets its contract: there are at most six strides. Assumes nothing.
 use borrow.Author.Needs.{needs}
-use mathlib.Core.Path.{_∙_}
 use native.Mathlib.Omega.{arith}
 use Rattle.level.specs.Level.{start1}
 use Rattle.level.proofs.Signed.{below-four}

@@ -1,144 +1,168 @@
 -- `walk1` meets its contract: whatever finishes the access from where it stands finishes the whole.
 -- Assumes nothing.
 use borrow.Author.Needs.{needs}
+use borrow.Author.Tests.{not-true, not-false}
 use mathlib.Core.Path.{_≡_, refl, sym, _∙_}
-use mathlib.Core.Bool.{true}
-use Prim.Native.Nat.{suc, _*_, _≤_, _<_}
+use mathlib.Core.Logic.{⊎-elim}
+use Prim.Native.Nat.{suc, _+_, _*_, _≤_, _<_}
 use native.Mathlib.Nat.{le-refl, mul-le-mul}
 use native.Mathlib.Omega.{arith}
 use lib.ListN.{length}
 use Rattle.bits.specs.Bits.{pick}
 use Rattle.reads.specs.Program.{stage-1}
 use Rattle.reads.proofs.Ran.{ran-length}
+use Rattle.descriptor.specs.Entry.{shift}
 use Rattle.descriptor.proofs.Turns.{down-more}
 use Rattle.capture.specs.Capture.{captured}
 use Rattle.walk.specs.Ends.{passed}
 use Rattle.walk.specs.Calls.{Fit, stage2Of}
 use Rattle.walk.proofs.Turns.{is-down}
 use Rattle.stages.specs.Calls.{stage1Of}
-use Rattle.stages.proofs.Calls.{Going, going-few, going-same, going-ends, going-stops, going-on, going-entry, going-absent, going-down, going-leaf, going-over}
+use Rattle.stages.proofs.Calls.{Placed, seconded-on, seconded-off, placed-on, placed-off, Going, going-few, going-same, going-ends, going-stops, going-on, going-entry, going-absent, going-down, going-leaf, going-over}
 use Rattle.stages.proofs.Openings.{opens-fit, opens-within, opens-going}
 use Rattle.stages.proofs.both.walk1.Statement.{statement}
 use Rattle.stages.proofs.both.walk1.Tie as tie
 
 abbrev Inv-loop : tie.InvT-loop
-Inv-loop bytes base p q a log₀ input masks g stride levels walking₀ left₀ shift₀ ipa₀ tables₀ word1₀ k₀ log walking left shift ipa tables word1 k =
+Inv-loop bytes base p q a log₀ input on masks g stride levels walking₀ left₀ shift₀ ipa₀ tables₀ word1₀ k₀ log walking left shift ipa tables word1 k =
     Going (captured base bytes) (stage1Of p) (stage2Of q) a g log₀ log walking left shift ipa tables word1 k
 
 -- the levels that are left, while there is a walk
 abbrev μ-loop : tie.MeasureT-loop
-μ-loop bytes base p q a log₀ input masks g stride levels walking₀ left₀ shift₀ ipa₀ tables₀ word1₀ k₀ log walking left shift ipa tables word1 k = pick walking (suc left) 0
+μ-loop bytes base p q a log₀ input on masks g stride levels walking₀ left₀ shift₀ ipa₀ tables₀ word1₀ k₀ log walking left shift ipa tables word1 k = pick walking (suc left) 0
 
 loop-holds : tie.Need-loop-holds Inv-loop μ-loop
 loop-holds c = let x = c .before .before .before .before .before .before in opens-going _ _ _ _ _ _ (x .pre .4) (x .pre .5)
 
-second-requires : tie.Need-second-requires Inv-loop μ-loop
-second-requires c κs =
-    let p = c .before .before .before .before .before .before .before .before .pre in
-    (p .0, p .1, p .2, omega (arith, going-few (c .before .loop .inv), going-same (c .before .loop .inv), p .3))
+-- ---- stage 2 ends the access
 
--- ---- in a turn that walks
-
--- stage 2 passed
-went : (c : tie.Then2 Inv-loop μ-loop) → passed (c .before .before .before .before .before .second .result .ending) ≡ true
-went c = sym (c .before .before .passed .ensures) ∙ c .before .if1 .taken
-
--- the walk starts at a root that is of use
-fit : (c : tie.Then2 Inv-loop μ-loop) → Fit (c .before .before .before .before .before .before .before .before .before .before .before .before .before .before .args .o .start)
-fit c =
-    let x = c .before .before .before .before .before .before .before .before .before .before .before .before .before .before in
-    opens-fit _ _ _ (x .pre .4) (x .pre .5) (going-on (c .before .before .before .before .before .before .before .loop .inv) (c .if2 .taken)) .1
-
--- at most 19 reads so far
-few : (c : tie.Then2 Inv-loop μ-loop) → c .before .before .before .before .before .second .result .count ≤ 19
-few c = omega (arith, c .before .before .before .before .before .second .ensures .1, going-entry (c .before .before .before .before .before .before .before .loop .inv) (c .if2 .taken) .3)
-
--- the log is as long as it was
-long : (c : tie.Then2 Inv-loop μ-loop) → length (c .before .before .before .before .before .second .last .1 .1 .1 .1 .1 .1 .0) ≡ length (c .before .before .before .before .before .before .before .before .before .before .before .before .before .before .args .log .now)
-long c = ran-length (c .before .before .before .before .before .second .ensures .0 .placed (c .if2 .taken)) ∙ going-same (c .before .before .before .before .before .before .before .loop .inv)
-
-turn-requires : tie.Need-turn-requires Inv-loop μ-loop
-turn-requires c κs = let f = fit (c .before .before .before .before) in (f .masks, f .small .block)
+translate2-requires : tie.Need-translate2-requires Inv-loop μ-loop
+translate2-requires c κs =
+    let l = c .before .before in
+    let p = l .before .before .before .before .before .before .before .pre in
+    (p .0, p .1, p .2, omega (arith, going-few (l .loop .inv), going-same (l .loop .inv), p .3), c .before .if1 .taken)
 
 returns : tie.Need-returns Inv-loop μ-loop
 returns c =
-    let t = c .before .before .before .before in
-    rw (c .first .ensures)
+    let s = c .before .before .before .before .before in
+    let l = s .before .before .before in
+    rw (c .by-stage2 .ensures)
     ((
-      going-absent (t .before .before .before .before .before .before .before .loop .inv) (t .before .before .before .before .before .second .ensures .0) (t .if2 .taken) (went t) _ refl refl refl (sym (c .before .before .before .read .ensures stage-1) ∙ c .before .enum-told .given .1),
-      omega (arith, few t),
+      going-stops (l .loop .inv) (seconded-on _ _ _ _ (s .before .before .if1 .taken) _ _ (s .translate2 .ensures .0)) (sym (c .before .before .passed .ensures) ∙ not-true _ (c .before .if2 .taken)),
+      omega (arith, s .translate2 .ensures .1, going-few (l .loop .inv)),
     ))
+
+returns-2 : tie.Need-returns-2 Inv-loop μ-loop
+returns-2 c =
+    let s = c .before .before .before .before .before in
+    let l = s .before .before .before in (
+      going-ends (l .loop .inv) (seconded-on _ _ _ _ (s .before .before .if1 .taken) _ _ (s .translate2 .ensures .0)) (not-true _ (c .if3 .taken)),
+      omega (arith, s .translate2 .ensures .1, going-few (l .loop .inv)),
+    )
+
+returns-3 : tie.Need-returns-3 Inv-loop μ-loop
+returns-3 c =
+    let l = c .before .before .before in
+    rw (c .unplaced .ensures)
+    ((
+      going-ends (l .loop .inv) (seconded-off _ _ _ _ _ (c .before .before .if1 .left)) (not-true _ (c .before .if4 .taken)),
+      omega (arith, going-few (l .loop .inv)),
+    ))
+
+-- ---- in a turn that walks
+
+placed : (c : tie.Joined1 Inv-loop μ-loop) →
+    let x = c .before .before .before .before .before .before .before .before .args in
+    let l = c .before .loop in
+    Placed (captured (x .base) (x .bytes .now)) (stage2Of (x .q)) (x .a) (l .walking) (l .ipa) (l .log) (l .k) (c .if1 .at) (c .if1 .k) (c .if1 .log)
+placed c =
+    ⊎-elim
+    (λ w. rw (w .8, w .9, w .10) (placed-on (c .before .loop .inv) (seconded-on _ _ _ _ (w .0 .taken) _ _ (w .2 .ensures .0)) (sym (w .5 .ensures) ∙ not-false _ (w .6 .left)) (not-false _ (w .7 .left)) (w .2 .ensures .1)))
+    (λ w. rw (w .2, w .3, w .4) (placed-off _ _ _ _ (w .0 .left) (not-false _ (w .1 .left))))
+    (c .if1 .came)
+
+-- the walk starts at a root that is of use
+fit : (c : tie.Joined1 Inv-loop μ-loop) → Fit (c .before .before .before .before .before .before .before .before .args .o .start)
+fit c =
+    let x = c .before .before .before .before .before .before .before .before in
+    opens-fit _ _ _ (x .pre .4) (x .pre .5) (going-on (c .before .loop .inv) (placed c .walks)) .1
+
+-- where its entry stands
+entry : (c : tie.Joined1 Inv-loop μ-loop) → let l = c .before .loop in let g = c .before .before .before .before .before .before .before .before .args .o .start .table .geometry in (l .left ≤ 3) × (l .shift ≡ shift g (l .left)) × (l .shift < 48) × (l .k + 5 * suc (l .left) ≤ 20)
+entry c = going-entry (c .before .loop .inv) (placed c .walks)
+
+-- at most 19 reads so far
+few : (c : tie.Joined1 Inv-loop μ-loop) → c .if1 .k ≤ 19
+few c = omega (arith, placed c .few, entry c .3)
+
+-- the log is as long as it was
+long : (c : tie.Joined1 Inv-loop μ-loop) → length (c .if1 .log) ≡ length (c .before .before .before .before .before .before .before .before .args .log .now)
+long c = ran-length (placed c .run) ∙ going-same (c .before .loop .inv)
+
+returns-4 : tie.Need-returns-4 Inv-loop μ-loop
+returns-4 c =
+    let j = c .before .before .before .before in
+    rw (c .first .ensures)
+    ((going-absent (j .before .loop .inv) (placed j) _ refl refl refl (sym (c .before .before .before .read .ensures stage-1) ∙ c .before .enum-told .given .1), omega (arith, few j)))
+
+turn-requires : tie.Need-turn-requires Inv-loop μ-loop
+turn-requires c κs = let f = fit (c .before .before .before .before .before) in (f .masks, f .small .block)
 
 -- ---- an entry that leads down
 
-more : (c : tie.Then3 Inv-loop μ-loop) → 0 < c .before .before .before .before .before .before .before .before .before .before .before .before .before .before .loop .left
-more c = down-more _ _ _ (sym (c .before .before .turn .ensures) ∙ is-down _ (sym (c .before .leads-down .ensures) ∙ c .if3 .taken))
+more : (c : tie.Then5 Inv-loop μ-loop) → 0 < c .before .before .before .before .before .before .before .before .before .loop .left
+more c = down-more _ _ _ (sym (c .before .before .turn .ensures) ∙ is-down _ (sym (c .before .leads-down .ensures) ∙ c .if5 .taken))
 
 sub-shift : tie.Need-sub-shift Inv-loop μ-loop
 sub-shift c =
-    let t = c .before .before .before .before .before .before .before in
-    let once : t .before .before .before .before .before .before .before .before .before .before .before .before .before .before .args .o .start .table .geometry .stride * 1 ≤ t .before .before .before .before .before .before .before .before .before .before .before .before .before .before .args .o .start .table .geometry .stride * t .before .before .before .before .before .before .before .loop .left = mul-le-mul (le-refl _) (more c) in
-    omega (arith, going-entry (t .before .before .before .before .before .before .before .loop .inv) (t .if2 .taken) .1)
+    let j = c .before .before .before .before .before .before .before .before in
+    let g = j .before .before .before .before .before .before .before .before .args .o .start .table .geometry in
+    let once : g .stride * 1 ≤ g .stride * j .before .loop .left = mul-le-mul (le-refl _) (more c) in
+    omega (arith, entry j .1)
 
 next-entry-requires : tie.Need-next-entry-requires Inv-loop μ-loop
 next-entry-requires c κs =
-    let t = c .before .before .before .before .before .before .before in
-    let f = fit t in
-    (f .masks, f .small .grainsize, f .small .stride, omega (arith, going-entry (t .before .before .before .before .before .before .before .loop .inv) (t .if2 .taken) .2))
+    let j = c .before .before .before .before .before .before .before .before in
+    let f = fit j in
+    (f .masks, f .small .grainsize, f .small .stride, omega (arith, entry j .2))
 
 loop-less : tie.Need-loop-less Inv-loop μ-loop
 unfolding pick
-loop-less c = rw (c .before .before .before .before .before .before .before .before .if2 .taken) (omega (arith, more (c .before)))
+loop-less c = rw (placed (c .before .before .before .before .before .before .before .before .before) .walks) (omega (arith, more (c .before)))
 
 loop-again : tie.Need-loop-again Inv-loop μ-loop
 loop-again c =
     let b = c .before in
-    let t = b .before .before .before .before .before .before .before in
+    let j = c .before .before .before .before .before .before .before .before .before in
     rw (c .next-entry .ensures)
-    (going-down (t .before .before .before .before .before .before .before .loop .inv) (t .before .before .before .before .before .second .ensures .0) (t .if2 .taken) (went t) (sym (b .before .before .before .before .before .before .read .ensures stage-1) ∙ b .before .before .before .before .x .given .1)
-    (rw (b .before .before .turn .ensures) at (sym (b .before .leads-down .ensures) ∙ b .if3 .taken)) (more b) (t .before .before .before .before .before .second .ensures .1))
+    (going-down (j .before .loop .inv) (placed j) (sym (b .before .before .before .before .before .before .before .read .ensures stage-1) ∙ b .before .before .before .before .before .x .given .1)
+    (rw (b .before .before .turn .ensures) at (sym (b .before .leads-down .ensures) ∙ b .if5 .taken)) (more b))
 
 -- ---- an entry that does not
 
 loop-less-2 : tie.Need-loop-less-2 Inv-loop μ-loop
 unfolding pick
-loop-less-2 c = rw (c .before .before .before .before .before .before .before .before .before .before .before .if2 .taken) (omega arith)
+loop-less-2 c = rw (placed (c .before .before .before .before .before .before .before .before .before .before .before .before) .walks) (omega arith)
 
 loop-again-2 : tie.Need-loop-again-2 Inv-loop μ-loop
 loop-again-2 c =
     let b = c .before .before .before .before in
-    let t = b .before .before .before .before .before .before .before in
+    let j = b .before .before .before .before .before .before .before .before in
     rw (c .output-address .ensures)
-    (going-leaf (t .before .before .before .before .before .before .before .loop .inv) (t .before .before .before .before .before .second .ensures .0) (t .if2 .taken) (went t) (sym (b .before .before .before .before .before .before .read .ensures stage-1) ∙ b .before .before .before .before .x .given .1)
-    (rw (b .before .before .turn .ensures) at (sym (b .before .leads-down .ensures) ∙ b .if3 .left)) _ (rw (b .before .before .turn .ensures) at (c .before .before .before .at-entry .ensures))
-    (sym (c .before .before .passed2 .ensures) ∙ c .before .if4 .taken) (t .before .before .before .before .before .second .ensures .1))
+    (going-leaf (j .before .loop .inv) (placed j) (sym (b .before .before .before .before .before .before .before .read .ensures stage-1) ∙ b .before .before .before .before .before .x .given .1)
+    (rw (b .before .before .turn .ensures) at (sym (b .before .leads-down .ensures) ∙ b .if5 .left)) _ (rw (b .before .before .turn .ensures) at (c .before .before .before .at-entry .ensures))
+    (sym (c .before .before .passed2 .ensures) ∙ c .before .if6 .taken))
 
-returns-2 : tie.Need-returns-2 Inv-loop μ-loop
-returns-2 c =
+returns-5 : tie.Need-returns-5 Inv-loop μ-loop
+returns-5 c =
     let b = c .before .before .before .before .before in
-    let t = b .before .before .before .before .before .before .before in
+    let j = b .before .before .before .before .before .before .before .before in
     rw (c .first2 .ensures, c .before .stopped .ensures)
     ((
-      going-over (t .before .before .before .before .before .before .before .loop .inv) (t .before .before .before .before .before .second .ensures .0) (t .if2 .taken) (went t) (sym (b .before .before .before .before .before .before .read .ensures stage-1) ∙ b .before .before .before .before .x .given .1)
-          (rw (b .before .before .turn .ensures) at (sym (b .before .leads-down .ensures) ∙ b .if3 .left)) _ (rw (b .before .before .turn .ensures) at (c .before .before .before .before .at-entry .ensures))
-          (sym (c .before .before .before .passed2 .ensures) ∙ c .before .before .if4 .left),
-      omega (arith, few t),
-    ))
-
--- ---- stage 2 ends the access
-
-returns-3 : tie.Need-returns-3 Inv-loop μ-loop
-returns-3 c = (
-  going-ends (c .before .before .before .before .before .before .before .loop .inv) (c .before .before .before .before .before .second .ensures .0) (c .if2 .left),
-  omega (arith, c .before .before .before .before .before .second .ensures .1, going-few (c .before .before .before .before .before .before .before .loop .inv)),
-)
-
-returns-4 : tie.Need-returns-4 Inv-loop μ-loop
-returns-4 c =
-    rw (c .by-stage2 .ensures)
-    ((
-      going-stops (c .before .before .before .before .before .before .before .loop .inv) (c .before .before .before .before .before .second .ensures .0) (sym (c .before .before .passed .ensures) ∙ c .before .if1 .left),
-      omega (arith, c .before .before .before .before .before .second .ensures .1, going-few (c .before .before .before .before .before .before .before .loop .inv)),
+      going-over (j .before .loop .inv) (placed j) (sym (b .before .before .before .before .before .before .before .read .ensures stage-1) ∙ b .before .before .before .before .before .x .given .1)
+          (rw (b .before .before .turn .ensures) at (sym (b .before .leads-down .ensures) ∙ b .if5 .left)) _ (rw (b .before .before .turn .ensures) at (c .before .before .before .before .at-entry .ensures))
+          (sym (c .before .before .before .passed2 .ensures) ∙ c .before .before .if6 .left),
+      omega (arith, few j),
     ))
 
 pub walk1-spec : {M : Type 1} → statement M
@@ -149,37 +173,40 @@ walk1-spec =
     μ-loop
     (λ c. let x = c .before .before .before .before .before .before in opens-within _ _ _ (x .pre .4) .some)
     loop-holds
-    second-requires
+    translate2-requires
     (λ c κs. search needs)
-    (λ c κs. c .before .before .before .before .before .before .before .before .before .before .before .before .before .before .pre .2)
-    (λ c. search needs)
-    (λ c. let t = c .before .before .before in going-entry (t .before .before .before .before .before .before .before .loop .inv) (t .if2 .taken) .0)
     (λ c κs. search needs)
     (λ c. ran-length (returns c .0))
     returns
+    (λ c. ran-length (returns-2 c .0))
+    returns-2
+    (λ c κs. search needs)
+    (λ c. ran-length (returns-3 c .0))
+    returns-3
+    (λ c κs. c .before .before .before .before .before .before .before .before .pre .2)
     (λ c. search needs)
-    (λ c. record { fits = omega (arith, few (c .before .before .before .before)) })
-    (λ c. let t = c .before .before .before .before in omega (arith, few t, long t, t .before .before .before .before .before .before .before .before .before .before .before .before .before .before .pre .3))
-    (λ c. record { fits = omega (arith, few (c .before .before .before .before)) })
+    (λ c. entry (c .before .before .before) .0)
+    (λ c κs. search needs)
+    (λ c. ran-length (returns-4 c .0))
+    returns-4
+    (λ c. search needs)
+    (λ c. record { fits = omega (arith, few (c .before .before .before .before .before)) })
+    (λ c. let j = c .before .before .before .before .before in omega (arith, few j, long j, j .before .before .before .before .before .before .before .before .pre .3))
+    (λ c. record { fits = omega (arith, few (c .before .before .before .before .before)) })
     turn-requires
     (λ c κs. search needs)
-    (λ c. more c)
+    more
     sub-shift
     next-entry-requires
     loop-less
     loop-again
-    (λ c κs. c .before .before .before .before .before .before .before .before .before .before .before .before .before .before .before .before .before .before .before .before .before .pre .1)
+    (λ c κs. c .before .before .before .before .before .before .before .before .before .before .before .before .before .before .before .before .pre .1)
     (λ c κs. search needs)
-    (λ c κs. let t = c .before .before .before .before .before .before .before .before .before .before in going-entry (t .before .before .before .before .before .before .before .loop .inv) (t .if2 .taken) .2)
+    (λ c κs. entry (c .before .before .before .before .before .before .before .before .before .before .before) .2)
     loop-less-2
     loop-again-2
-    (λ c. let t = c .before .before .before .before .before .before .before .before .before .before in going-entry (t .before .before .before .before .before .before .before .loop .inv) (t .if2 .taken) .0)
+    (λ c. entry (c .before .before .before .before .before .before .before .before .before .before .before) .0)
     (λ c κs. search needs)
     (λ c κs. search needs)
-    (λ c. ran-length (returns-2 c .0))
-    returns-2
-    (λ c. ran-length (returns-3 c .0))
-    returns-3
-    (λ c κs. search needs)
-    (λ c. ran-length (returns-4 c .0))
-    returns-4)
+    (λ c. ran-length (returns-5 c .0))
+    returns-5)
