@@ -28,7 +28,7 @@ use Rattle.answers.specs.declared.Answer.{Answer}
 
 -- the number of an end's answer, and its output
 end-number : (n : ℕ) (s : Stage) (t : Translation) (address level : ℕ) (e : Ending) → number (answer n (pick (passed e) (reached t) (stopped (stopBy s address level e)))) ≡ endingNumber e
-unfolding pick passed stopBy answer number endingNumber
+unfolding pick stopBy answer number
 end-number n s t address level E.Passed = refl
 end-number n s t address level E.Translation = refl
 end-number n s t address level E.AddressSize = refl
@@ -39,7 +39,7 @@ end-number n s t address level E.Absent = refl
 end-number n s t address level E.Unsettled = refl
 
 end-output : (n : ℕ) (s : Stage) (t : Translation) (address level : ℕ) (e : Ending) → outputOf (answer n (pick (passed e) (reached t) (stopped (stopBy s address level e)))) ≡ pick (passed e) (t .address) 0
-unfolding pick passed stopBy answer outputOf
+unfolding pick stopBy answer outputOf
 end-output n s t address level E.Passed = refl
 end-output n s t address level E.Translation = refl
 end-output n s t address level E.AddressSize = refl

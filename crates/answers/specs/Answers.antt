@@ -53,7 +53,7 @@ number (A.Unsettled o n) = 7
 number (A.Refused r) = refusalNumber r
 
 -- the number of an end in plain words, for the contracts of code
-unfoldable pub endingNumber : Ending → ℕ
+abbrev pub endingNumber : Ending → ℕ
 endingNumber E.Passed = 0
 endingNumber E.Translation = 1
 endingNumber E.AddressSize = 2

@@ -106,15 +106,6 @@ fn shareability_of(v: u64) -> Shareability
     }
 }
 
-pub fn is_device(m: MemoryType) -> bool
-    ensures { λ r. ⌜ r ≡ Memories.isDevice m ⌝ }
-{
-    match m {
-        MemoryType::Device(_) => true,
-        MemoryType::Normal { outer: _, inner: _ } => false,
-    }
-}
-
 fn is_non_cacheable(c: Cacheability) -> bool
     ensures { λ r. ⌜ r ≡ Memories.isNonCacheable c ⌝ }
 {

@@ -1,6 +1,5 @@
 // Fields of a word, by shifts and remainders. A shift of a word must be by less than 64, so each function tests its amount first.
 ghost use mathlib.Core.Path.{_≡_};
-ghost use Prim.Native.Nat.{_%_, _^_};
 ghost use Rattle.bits.specs.Bits as Bits;
 
 // Bit i of x is set.
@@ -23,13 +22,6 @@ pub fn field(x: u64, low: u64, n: u64) -> u64
     } else {
         0
     }
-}
-
-// The bits of x below t.
-pub fn lower(x: u64, t: u64) -> u64
-    ensures { λ r. ⌜ r ≡ x % 2 ^ t ⌝ }
-{
-    if t < 64 { x % (1 << t) } else { x }
 }
 
 // Bits 47 down to low of x, in their places.

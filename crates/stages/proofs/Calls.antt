@@ -67,7 +67,7 @@ pub record Placed (m : Request → Read) (s : Stage2) (a : Access) (walking : Bo
 
 module _ (m : Request → Read) (s : Stage2) (a : Access) (ipa : ℕ) {log : List ℕ} {count : ℕ} where
   pub seconded-off : (w : Bool) → s .on ≡ false → Seconded m s a w ipa log count (asItIs ipa count) log
-  unfolding place1 finish outcome passed pick
+  unfolding place1 finish outcome pick
   seconded-off w off =
       record {
         placed = λ _. ran-false m _ off (ran-done m ipa log count);
@@ -184,7 +184,7 @@ module _ {m : Request → Read} {s1 : Stage1} {s2 : Stage2} {a : Access} {g : Ge
   At f = m (req m (place1 s2 a) g One (a .address) place) ≡ f
 
   pub going-absent : (e : End) → e .ending ≡ E.Absent → e .address ≡ place → e .level ≡ 3 - left → At Absent → Ran m (access s1 s2 a) log₀ 0 (arrived s1 s2 a (atFirst e)) k′ log₁
-  unfolding passed stopBy
+  unfolding stopBy
   going-absent e q u v f =
       let i = at-entry now (x .walks) in
       first-stopped m s1 s2 a e (rw q) (rw (q, u, v) (stopped-walk m s1 s2 a (i .0) (walking-absent (i .1) (x .run) f)))
@@ -222,7 +222,7 @@ module _ {m : Request → Read} {s1 : Stage1} {s2 : Stage2} {a : Access} {g : Ge
               (rw (pick-true (s1 .on) (settledPart (stage1Attributes (s1 .mair) (uncached1 s1 a) y)) _ (i .0), pick-true (s1 .on) (3 - left) 0 (i .0))
               (rw (outcome-passed One _ (reading y) q) at (leaf-ended l)))
               (omega (arith, i .2, x .few))
-          by-leaf false l = absurd (true≢false (sym q ∙ rw (is, l) (over-stops _ not-down l)))
+          by-leaf false l = absurd (true≢false (sym q ∙ rw (is, l) (over-stops (turnOf (decode g left y)) not-down l)))
 
       -- a leaf that does not, or no leaf
       pub going-over : passed e ≡ false → Ran m (access s1 s2 a) log₀ 0 (arrived s1 s2 a (atFirst (stoppedBy e (3 - left) (k′ + 1)))) (k′ + 1) Log

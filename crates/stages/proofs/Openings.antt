@@ -57,7 +57,7 @@ offOutput s a = record { address = a .address % 2 ^ 48; attributes = stage1OffAt
 
 off-tested : (o : Output) (inside misaligned : Bool) →
     checked (unless (not inside) (fault F.AddressSize One 0) (unless misaligned (S.Misaligned One) (C.Passed o))) ≡ outcome One o (stoppedBy (pick inside (pick misaligned E.Misaligned E.Passed) E.AddressSize) 0 0)
-unfolding unless checked outcome passed stopBy pick
+unfolding unless checked outcome stopBy pick
 off-tested o true true = refl
 off-tested o true false = refl
 off-tested o false misaligned = refl

@@ -85,7 +85,7 @@ pub fn bounds_of(tbi0: bool, tbi1: bool, lower: u64, upper: u64, pamax: u64) -> 
 }
 
 // The range of an address.
-pub fn range_at(b: Bounds, address: u64) -> Range
+pub(crate) fn range_at(b: Bounds, address: u64) -> Range
     requires { ⌜ Ranges.Counting b ⌝ }
     ensures { λ r. ⌜ r ≡ Ranges.rangeAt b address ⌝ }
 {
@@ -105,7 +105,7 @@ pub fn range_at(b: Bounds, address: u64) -> Range
 }
 
 // With stage 1 off: the bits of an address that count lie below PAMax.
-pub fn in_pamax(b: Bounds, address: u64) -> bool
+pub(crate) fn in_pamax(b: Bounds, address: u64) -> bool
     requires { ⌜ Ranges.Counting b ⌝ }
     ensures { λ r. ⌜ ((n : ℕ) → b .ceiling ≡ 2 ^ n → r ≡ eqb (address % 2 ^ suc (pick {A = ℕ} (pick (bit address 55) (b .tbi1) (b .tbi0)) 55 63) / 2 ^ n) 0) ⌝ }
 {

@@ -50,7 +50,7 @@ outcome-stopped s v e p = pick-false _ _ _ p
 -- ---- a fault that every walk meets
 
 pub fault-stops : (kind : FaultKind) → passed (faulted kind) ≡ false
-unfolding passed faulted
+unfolding faulted
 fault-stops F.Translation = refl
 fault-stops F.AddressSize = refl
 fault-stops F.AccessFlag = refl
@@ -65,7 +65,6 @@ fault-stop s address level F.Permission = refl
 
 -- a turn that leads neither down nor to a leaf
 pub over-stops : (t : Turn) → leadsDown t ≡ false → isLeaf t ≡ false → passed (over t) ≡ false
-unfolding passed over leadsDown isLeaf
 over-stops T.Down down leaf = absurd (true≢false down)
 over-stops T.Leaf down leaf = absurd (true≢false leaf)
 over-stops T.Translation down leaf = refl
@@ -82,7 +81,6 @@ ran-over s decoded t level count q down leaf r = rw (q, outcome-stopped {A = Out
 -- ---- starts
 
 passes : {e : Ending} → e ≡ E.Passed → passed e ≡ true
-unfolding passed
 passes e = rw e
 
 pub starts-within : (p : Start) (r : Root) → Starts p r → Within p
@@ -123,7 +121,7 @@ ran-give m (C.Stopped e) log count = ran-stop m e log count
 permitted-tested : (s : Stage) (input : ℕ) (l : Leaf) (misaligned denied : Bool) (t : Attributes) (e : End) →
     e .address ≡ outputAddress (l .word) (l .shift) input → e .level ≡ l .level → e .ending ≡ tested misaligned denied →
     checked (permitted s input l misaligned denied t) ≡ outcome s (record { address = e .address; attributes = t; level = e .level }) e
-unfolding pick unless permitted checked outcome passed stopBy
+unfolding pick unless permitted checked outcome stopBy
 permitted-tested s input l true denied t e a v q = rw q
 permitted-tested s input l false true t e a v q = rw (q, v)
 permitted-tested s input l false false t e a v q = rw (q, a, v)
@@ -133,7 +131,7 @@ module _ (s : Stage) (input : ℕ) (l : Leaf) (misaligned denied : Bool → Bool
   pub verdict-checked : (decoded : ℕ → Decoded) (e : End) →
       e .address ≡ outputAddress (l .word) (l .shift) input → e .word ≡ l .word → e .level ≡ l .level → e .ending ≡ verdict misaligned denied (classOf (decoded (l .word))) →
       checked (settled (unsettled s (l .level)) (λ t. permitted s input l (misaligned (isDevice (t .memory))) (denied (isDevice (t .memory))) t) (decoded (l .word))) ≡ ended s decoded e
-  unfolding classOf verdict pick settled settledPart checked outcome passed stopBy
+  unfolding classOf verdict pick settled settledPart checked outcome stopBy
   verdict-checked decoded e a w v q = rw w (by-decoded (decoded (l .word)) q)
     where
       by-device : (t : Attributes) (b : Bool) → isDevice (t .memory) ≡ b → e .ending ≡ verdict misaligned denied (classOf (D.Settled t)) → e .ending ≡ tested (misaligned b) (denied b)

@@ -30,7 +30,6 @@ use Rattle.walk.specs.declared.table.Root.the-variants.{Usable}
 
 -- a turn that leads down, or to a leaf
 pub is-down : (t : Turn) → leadsDown t ≡ true → t ≡ T.Down
-unfolding leadsDown
 is-down T.Down e = refl
 is-down T.Leaf e = absurd (true≢false (sym e))
 is-down T.Translation e = absurd (true≢false (sym e))
@@ -40,7 +39,6 @@ is-down T.Permission e = absurd (true≢false (sym e))
 is-down T.Unsettled e = absurd (true≢false (sym e))
 
 pub is-leaf : (t : Turn) → isLeaf t ≡ true → t ≡ T.Leaf
-unfolding isLeaf
 is-leaf T.Down e = absurd (true≢false (sym e))
 is-leaf T.Leaf e = refl
 is-leaf T.Translation e = absurd (true≢false (sym e))
@@ -109,7 +107,7 @@ module _ (m : Request → Read) (place : ℕ → Reading ℕ) (g : Geometry) (s 
       -- a turn that is neither
       here-over : (address : ℕ) (t : Turn) → turnOf (decode g n x) ≡ t → leadsDown t ≡ false → isLeaf t ≡ false →
           Ran m (here n at h) log k (stopped (stopBy s address (3 - n) (over t))) (k + 1) (set log k at)
-      unfolding ifPresent follow entryOf leadsDown isLeaf over stopBy
+      unfolding ifPresent follow entryOf stopBy
       here-over address T.Down e down leaf = absurd (true≢false down)
       here-over address T.Leaf e down leaf = absurd (true≢false leaf)
       here-over address T.Translation e down leaf = ran-word m found (rw (turn-entry g n x e) (ran-stop m _ _ _))

@@ -21,7 +21,7 @@ use Rattle.walk.specs.declared.end.Ending.{Ending}
 use Rattle.walk.specs.declared.end.Ending.the-variants.{Passed, Translation, AddressSize, AccessFlag, Permission, Misaligned, Absent, Unsettled}
 use Rattle.walk.specs.declared.end.End.{End}
 
-unfoldable pub passed : Ending → Bool
+abbrev pub passed : Ending → Bool
 passed Passed = true
 passed Translation = false
 passed AddressSize = false
@@ -61,7 +61,7 @@ ended s decoded e = outcome s (record { address = e .address; attributes = settl
 
 -- ---- turns
 
-unfoldable pub leadsDown : Turn → Bool
+abbrev pub leadsDown : Turn → Bool
 leadsDown T.Down = true
 leadsDown T.Leaf = false
 leadsDown T.Translation = false
@@ -70,7 +70,7 @@ leadsDown T.AccessFlag = false
 leadsDown T.Permission = false
 leadsDown T.Unsettled = false
 
-unfoldable pub isLeaf : Turn → Bool
+abbrev pub isLeaf : Turn → Bool
 isLeaf T.Down = false
 isLeaf T.Leaf = true
 isLeaf T.Translation = false
@@ -79,7 +79,7 @@ isLeaf T.AccessFlag = false
 isLeaf T.Permission = false
 isLeaf T.Unsettled = false
 
-unfoldable pub over : Turn → Ending
+abbrev pub over : Turn → Ending
 over T.Down = Passed
 over T.Leaf = Passed
 over T.Translation = Translation

@@ -1,5 +1,4 @@
 // Ends of a translation in plain words: the loops build no enum with contents, which would be copied at every return.
-use descriptor::entry::FaultKind;
 use descriptor::entry::Turn;
 ghost use mathlib.Core.Path.{_≡_};
 ghost use Rattle.walk.specs.Ends as Ends;
@@ -39,17 +38,6 @@ pub fn passed(e: Ending) -> bool
         Ending::Misaligned => false,
         Ending::Absent => false,
         Ending::Unsettled => false,
-    }
-}
-
-pub fn faulted(k: FaultKind) -> Ending
-    ensures { λ r. ⌜ r ≡ Ends.faulted k ⌝ }
-{
-    match k {
-        FaultKind::Translation => Ending::Translation,
-        FaultKind::AddressSize => Ending::AddressSize,
-        FaultKind::AccessFlag => Ending::AccessFlag,
-        FaultKind::Permission => Ending::Permission,
     }
 }
 

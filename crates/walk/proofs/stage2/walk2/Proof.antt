@@ -13,7 +13,8 @@ use Rattle.reads.specs.Ran.{Ran}
 use Rattle.reads.specs.declared.Read.{Read}
 use Rattle.access.specs.declared.Access.{Access}
 use Rattle.reads.proofs.Ran.{ran-done}
-use Rattle.descriptor.specs.Entry.{nothing, outputAddress}
+use Rattle.descriptor.specs.Entry.{nothing, decode, outputAddress}
+use Rattle.descriptor.specs.Turn.{turnOf}
 use Rattle.descriptor.proofs.Turns.{down-more}
 use Rattle.capture.specs.Capture.{captured}
 use Rattle.bits.specs.Bits.{pick}
@@ -22,7 +23,7 @@ use Rattle.walk.specs.Walk.{entryAddress}
 use Rattle.attributes.specs.Attributes.{classOf, stage2Attributes}
 use Rattle.walk.specs.Checks.{misaligned, give}
 use Rattle.walk.specs.Stage2.{uncached2, denied2, check2}
-use Rattle.walk.specs.Ends.{passed, stopBy, outcome, ended, verdict}
+use Rattle.walk.specs.Ends.{stopBy, outcome, ended, verdict}
 use Rattle.walk.specs.Calls.{stage2Of}
 use Rattle.walk.specs.declared.table.Leaf.{Leaf}
 use Rattle.walk.specs.declared.end.End.{End}
@@ -101,7 +102,7 @@ first : (c : tie.At-loop Inv-loop μ-loop) →
 first c = rw (c .before .before .before .before .before .before .before .before .pre .0 .shift) at (c .before .first-entry .ensures)
 
 returns : tie.Need-returns Inv-loop μ-loop
-unfolding pick outcome passed stopBy
+unfolding pick outcome stopBy
 returns c =
     let l = c .before .before .before in
     let p = l .before .before .before .before .before .before .before .before .pre in (
@@ -133,7 +134,7 @@ returns-3 c =
     let leaf = rw (t .turn .ensures) at (sym (c .before .before .before .is-leaf .ensures) ∙ c .before .before .if2 .left) in
     rw (c .stopped .ensures)
     ((
-      ran-over _ (stage2Attributes (uncached2 (stage2Of (z .p)) (z .a) (z .onwalk))) _ _ (l .loop .k + 1) (rw (t .turn .ensures) at (c .before .over .ensures)) down leaf
+      ran-over _ (stage2Attributes (uncached2 (stage2Of (z .p)) (z .a) (z .onwalk))) (turnOf (decode _ _ _)) _ (l .loop .k + 1) (rw (t .turn .ensures) at (c .before .over .ensures)) down leaf
           (from-stopped _ done _ _ _ (z .p .start .table) refl (p .0 .small .some) _ (first l)
           (walking-over (l .loop .inv .0) (ran-done _ _ _ _) (sym (r .read .ensures stage-2) ∙ c .before .before .before .before .before .before .before .before .x .given .1) 0 down leaf)),
       omega (arith, l .loop .inv .1),
