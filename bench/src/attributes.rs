@@ -1,7 +1,7 @@
 //! Memory types and shareability, in the codes of the exported call: Device memory is 0 to 3 in document 01's order, Normal memory
 //! from 16 on, with 4 times the outer cacheability and the inner one, each 0 Non-cacheable, 1 Write-Through, 2 Write-Back.
 use crate::decode::{bit, stage1_on, stage2_on};
-use calls::Question;
+use crate::proved::Question;
 
 /// Normal memory, Non-cacheable both ways. The least of the codes of Normal memory.
 pub const NORMAL: u8 = 16;

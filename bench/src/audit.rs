@@ -1,8 +1,8 @@
 //! A straightforward audit in Rust, by document 01: what the proved audit is measured against. Every list is searched from its start.
 use crate::decode::second;
+use crate::proved::{AuditWords, Capture, Question};
 use crate::refusals::{ends_high, item};
 use crate::straight::{level, output, shift, PAGE};
-use calls::{AuditWords, Capture, Question};
 
 /// Addresses and counts are multiples of this, and so many bytes has a listed table.
 const FRAME: u64 = 1 << PAGE;

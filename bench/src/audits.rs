@@ -1,10 +1,10 @@
 //! The largest audits: clean ones with as many tables and grants as may be listed.
 use crate::audit::{audit, Lists, MOST_GRANTS, MOST_TABLES};
+use crate::proved::{AuditWords, Capture, Question};
 use crate::random::Random;
 use crate::refused::ACCEPTED;
 use crate::tables::{BASE, LEAF2, PAGE, TABLE};
 use crate::timing::{interleaved, nanoseconds};
-use calls::{AuditWords, Capture, Question};
 
 /// Entries of each table, the root's too.
 const ENTRIES: usize = 512;
@@ -83,7 +83,8 @@ fn rust(bytes: &[u8], lists: &Lists) -> AuditWords {
 }
 
 fn proved(bytes: &[u8], lists: &Lists) -> AuditWords {
-    calls::audit(&REGISTERS, Capture { base: BASE, bytes }, &lists.grants, &lists.counts, &lists.tables, &lists.levels)
+    let lent = humpelkaas::calls::Lists { grants: &lists.grants, counts: &lists.counts, tables: &lists.tables, levels: &lists.levels };
+    crate::proved::audit(&REGISTERS, Capture { base: BASE, bytes }, lent)
 }
 
 /// Both audits must say that all is clean, and must find the same in a capture cut short, with a table granted, and with the last

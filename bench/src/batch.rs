@@ -1,7 +1,7 @@
 //! The straightforward walk for a batch: registers are decoded once.
 use crate::decode::{bit, first, First};
+use crate::proved::{Capture, Question};
 use crate::straight::{Trail, Walker, LOG};
-use calls::{Capture, Question};
 
 /// A capture with decoded registers, ready for any number of addresses.
 pub struct Batch<'a> {

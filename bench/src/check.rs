@@ -1,9 +1,10 @@
 //! Before anything is timed: all four must say the same.
 use crate::batch::Batch;
+use crate::proved;
+use crate::proved::{Capture, Question, Words};
 use crate::question;
 use crate::straight::LOG;
 use crate::workloads::{Workload, BATCH};
-use calls::{Capture, Question, Words};
 
 /// One address in so many is put to the proved question too. Odd, or all of the sample could be of the eighth that lies beyond the
 /// input size in the workload of faults.
@@ -44,9 +45,9 @@ fn batches_agree(workload: &Workload, batch: &Batch, addresses: &[u64]) -> Resul
     let mut ours = (vec![u64::MAX; BATCH], vec![u64::MAX; BATCH]);
     let mut theirs = ours.clone();
     batch.run(addresses, &mut ours.1, &mut ours.0, &mut [0; LOG]);
-    let words = calls::batch(&workload.question, workload.capture(), addresses, &mut theirs.1, &mut theirs.0);
-    if words.number != 0 || words.asked != addresses.len() as u64 {
-        return Err(format!("the proved batch answers {} and asked {}", words.number, words.asked));
+    let words = proved::batch(&workload.question, workload.capture(), addresses, &mut theirs.1, &mut theirs.0);
+    if words.number != 0 || words.ledger.asked != addresses.len() as u64 {
+        return Err(format!("the proved batch answers {} and asked {}", words.number, words.ledger.asked));
     }
     let ours: Vec<(u64, u64)> = ours.0.into_iter().zip(ours.1).collect();
     for ((address, ours), theirs) in addresses.iter().zip(&ours).zip(theirs.0.into_iter().zip(theirs.1)) {
@@ -61,7 +62,7 @@ fn batches_agree(workload: &Workload, batch: &Batch, addresses: &[u64]) -> Resul
 pub fn questions_agree(q: &Question, capture: Capture, address: u64, words: usize) -> Result<Words, String> {
     // Filled with what no descriptor lies at, so that a word that is to be kept is seen to be.
     let (mut ours, mut theirs) = (vec![u64::MAX; words], vec![u64::MAX; words]);
-    let (said, proved) = (question::ask(q, capture, address, &mut ours), calls::ask(q, capture, address, &mut theirs));
+    let (said, proved) = (question::ask(q, capture, address, &mut ours), proved::ask(q, capture, address, &mut theirs));
     if said != proved || ours != theirs {
         return Err(format!(
             "{address:#x}: the Rust question says {said:x?}, log {ours:x?}, the proved question {proved:x?}, log {theirs:x?}"

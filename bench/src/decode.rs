@@ -1,6 +1,6 @@
 //! What the straightforward walk goes by: registers, decoded. Settings must be accepted ones.
+use crate::proved::Question;
 use crate::straight::Cause;
-use calls::Question;
 
 /// The output sizes by IPS or PS.
 const SIZES: [u64; 6] = [32, 36, 40, 42, 44, 48];

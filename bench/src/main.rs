@@ -12,6 +12,7 @@ mod batch;
 mod check;
 mod decode;
 mod one_by_one;
+mod proved;
 mod question;
 mod random;
 mod refusals;

@@ -1,5 +1,5 @@
 //! A question for each address of a batch, the proved one or the straightforward one.
-use calls::{Capture, Question, Words};
+use crate::proved::{Capture, Question, Words};
 
 /// Asks for all addresses, one call each. The log is not cleared between them.
 pub fn one_by_one(

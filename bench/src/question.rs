@@ -1,9 +1,9 @@
 //! The straightforward walk for one question: what it is refused for is tested, registers are decoded anew, and the answer is whole.
 use crate::attributes::reported;
 use crate::decode::{bit, first};
+use crate::proved::{Capture, Question, Words};
 use crate::refusals::refusal;
 use crate::straight::{level, Cause, Notes, Place, Trail, Walker, LOG, TOP};
-use calls::{Capture, Question, Words};
 
 #[derive(Clone, Copy)]
 struct Leaf {

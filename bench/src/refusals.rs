@@ -1,7 +1,7 @@
 //! What the straightforward question and audit are refused for.
 use crate::decode::{bit, stage1_on, stage2_on};
+use crate::proved::{Capture, Question, Words};
 use crate::straight::LOG;
-use calls::{Capture, Question, Words};
 
 /// The granule of 4 KB in TG0 and in TG1, whose codes differ.
 const TG0: u64 = 0;

@@ -1,7 +1,7 @@
 //! Questions that are refused, and their neighbours that are not: both questions must agree on these before anything is timed.
 use crate::check::questions_agree;
+use crate::proved::{Capture, Question};
 use crate::straight::LOG;
-use calls::{Capture, Question};
 
 /// Both stages are on, and nothing is wrong (document 01, Cases).
 pub const ACCEPTED: Question = Question {

@@ -2,7 +2,7 @@
 //! Slices are safe, each stage is one loop over its levels. The batch and the question share it.
 use crate::attributes::{reserved_shareability, MAIR, NORMAL, UNSETTLED};
 use crate::decode::{bit, second, First, Flat, Root, Stage1, Stage2};
-use calls::{Capture, Question};
+use crate::proved::{Capture, Question};
 
 /// Words of a log, as many as one address may need.
 pub const LOG: usize = 24;

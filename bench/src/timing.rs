@@ -1,6 +1,7 @@
 //! Times in interleaved rounds: of a workload's batches through all four ways, and of whatever else has several ways.
 use crate::batch::Batch;
 use crate::one_by_one::one_by_one;
+use crate::proved;
 use crate::question;
 use crate::straight::LOG;
 use crate::workloads::{Workload, BATCH, BATCHES};
@@ -60,10 +61,10 @@ fn timed(way: usize, workload: &Workload, addresses: &[u64], lent: &mut Lent) ->
     nanoseconds(|| match way {
         0 => Batch::new(q, capture).run(addresses, outputs, numbers, log),
         1 => {
-            calls::batch(q, capture, addresses, outputs, numbers);
+            proved::batch(q, capture, addresses, outputs, numbers);
         }
         2 => one_by_one(question::ask, q, capture, addresses, outputs, numbers, log),
-        _ => one_by_one(calls::ask, q, capture, addresses, outputs, numbers, log),
+        _ => one_by_one(proved::ask, q, capture, addresses, outputs, numbers, log),
     })
 }
 

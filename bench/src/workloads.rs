@@ -1,7 +1,7 @@
 //! The workloads: captures, registers and addresses for each.
+use crate::proved::{Capture, Question};
 use crate::random::Random;
 use crate::tables::{Shape, Tables, BASE};
-use calls::{Capture, Question};
 
 /// The most addresses that one batch may have.
 pub const BATCH: usize = 4096;

@@ -1,4 +1,4 @@
--- Answers in numbers, and the calls on numbers.
+-- Answers in numbers.
 -- Assumes nothing.
 use mathlib.Core.Bool.{Bool, true, false}
 use mathlib.Core.List.{List, [], _∷_}
@@ -15,19 +15,17 @@ use Rattle.attributes.specs.declared.MemoryType.the-variants.{Device, Normal}
 use Rattle.attributes.specs.declared.Shareability.{Shareability}
 use Rattle.attributes.specs.declared.Shareability.the-variants.{NonShareable, OuterShareable, InnerShareable}
 use Rattle.answers.specs.Answers.{Value, address, attributes, stage, level, level1, level2, on-walk, ipa, reads, item, itemOf, number, carries}
-use Rattle.answers.specs.Question.{Told, ask}
 use Rattle.answers.specs.declared.Answer.{Answer}
-use Rattle.registers.specs.declared.El1.{El1}
-use Rattle.registers.specs.declared.El2.{El2}
+use Rattle.ledger.specs.declared.Ledger.{Ledger}
 use Rattle.ledger.specs.declared.line.LineAnswer.{LineAnswer}
 use Rattle.ledger.specs.declared.line.LineAnswer.the-variants.{Written, Short}
-use Rattle.batch.specs.Batch.{sharing, batchNumber, BatchTold, batch}
+use Rattle.batch.specs.Batch.{batchNumber}
 use Rattle.batch.specs.declared.BatchAnswer.{BatchAnswer}
 use Rattle.batch.specs.declared.BatchAnswer.the-variants.{Done, Refused}
 use Rattle.exported.specs.declared.Words.{Words}
 use Rattle.exported.specs.declared.BatchWords.{BatchWords}
 use Rattle.exported.specs.declared.AuditWords.{AuditWords}
-use Rattle.audit.specs.Audit.{auditNumber, audit}
+use Rattle.audit.specs.Audit.{auditNumber}
 use Rattle.audit.specs.declared.AuditAnswer.{AuditAnswer}
 use Rattle.audit.specs.declared.AuditAnswer.the-variants.{Clean, Found}
 use Rattle.audit.specs.declared.AuditAnswer.the-variants as A
@@ -105,21 +103,14 @@ worded n l =
 abbrev pub words : Answer → Words
 words a = worded (number a) (carries a)
 
--- ---- a batch's answer: its number, and its ledger's figures or a settings refusal's item
+-- ---- a batch's answer: its number, and its ledger or a settings refusal's item
+
+abbrev pub noLedger : Ledger
+noLedger = record { asked = 0; translated = 0; faulted = 0; absent = 0; unsettled = 0 }
 
 unfoldable pub batchWords : BatchAnswer → BatchWords
-batchWords (Done l) =
-    record {
-      number = batchNumber (Done l);
-      item = 0;
-      asked = l .asked;
-      translated = l .translated;
-      faulted = l .faulted;
-      absent = l .absent;
-      unsettled = l .unsettled;
-    }
-batchWords (Refused r) =
-    record { number = batchNumber (Refused r); item = getD (itemOf r) 0 0; asked = 0; translated = 0; faulted = 0; absent = 0; unsettled = 0 }
+batchWords (Done l) = record { number = batchNumber (Done l); item = 0; ledger = l }
+batchWords (Refused r) = record { number = batchNumber (Refused r); item = getD (itemOf r) 0 0; ledger = noLedger }
 
 -- ---- an audit's answer: its number, and a finding's address or a settings refusal's item
 
@@ -132,25 +123,3 @@ auditWords (A.Refused r) = record { number = auditNumber (A.Refused r); item = g
 abbrev pub lineWord : LineAnswer → ℕ
 lineWord (Written n) = n
 lineWord Short = 0
-
--- ---- the calls, with PAMax and each register a number
-
-abbrev pub el2 : (pamax hcr vtcr vttbr sctlr : ℕ) → El2
-el2 pamax hcr vtcr vttbr sctlr = record { pamax = pamax; hcr = record { 0 = hcr }; vtcr = record { 0 = vtcr }; vttbr = vttbr; sctlr = record { 0 = sctlr } }
-
-abbrev pub el1 : (sctlr tcr ttbr0 ttbr1 mair : ℕ) → El1
-el1 sctlr tcr ttbr0 ttbr1 mair = record { sctlr = record { 0 = sctlr }; tcr = record { 0 = tcr }; ttbr0 = ttbr0; ttbr1 = ttbr1; mair = mair }
-
--- the question
-abbrev pub asked : (base : ℕ) (bytes : List ℕ) (pamax hcr vtcr vttbr sctlr2 sctlr1 tcr ttbr0 ttbr1 mair address kind el size : ℕ) (log : List ℕ) → Told
-asked base bytes pamax hcr vtcr vttbr sctlr2 sctlr1 tcr ttbr0 ttbr1 mair at kind el size log =
-    ask base bytes (el2 pamax hcr vtcr vttbr sctlr2) (el1 sctlr1 tcr ttbr0 ttbr1 mair) (record { address = at; kind = kind; el = el; size = size }) log
-
--- the batch
-abbrev pub batched : (base : ℕ) (bytes : List ℕ) (pamax hcr vtcr vttbr sctlr2 sctlr1 tcr ttbr0 ttbr1 mair kind el size : ℕ) (addresses outputs numbers : List ℕ) → BatchTold
-batched base bytes pamax hcr vtcr vttbr sctlr2 sctlr1 tcr ttbr0 ttbr1 mair kind el size addresses outputs numbers =
-    batch base bytes (sharing (el2 pamax hcr vtcr vttbr sctlr2) (el1 sctlr1 tcr ttbr0 ttbr1 mair) kind el size) addresses outputs numbers
-
--- the audit
-abbrev pub audited : (base : ℕ) (bytes : List ℕ) (pamax hcr vtcr vttbr sctlr2 : ℕ) (grants counts tables levels : List ℕ) → AuditAnswer
-audited base bytes pamax hcr vtcr vttbr sctlr2 = audit base bytes (el2 pamax hcr vtcr vttbr sctlr2)

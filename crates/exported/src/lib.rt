@@ -1,4 +1,5 @@
-// The question, the batch, the audit and the ledger's line as calls on numbers and slices, for programs in C and Rust.
+// The question, the batch, the audit and the ledger's line as calls on numbers, structs of numbers and slices, for programs in C and Rust.
+// include/humpelkaas.h declares them for C.
 use access::Access;
 use answers::Answer;
 use answers::Refusal;
@@ -13,17 +14,16 @@ use ledger::line;
 use ledger::line::LineAnswer;
 use registers::El1;
 use registers::El2;
-use registers::hcr::Hcr;
-use registers::sctlr::Sctlr;
-use registers::tcr::Tcr;
-use registers::vtcr::Vtcr;
 use stages::both::Translation;
 use walk::stop::Stage;
 ghost use mathlib.Core.Path.{_≡_};
 ghost use Prim.Native.Nat.{_≤_};
 ghost use Rattle.answers.specs.Answers.{stageNumber, carries};
 ghost use Rattle.answers.specs.declared.Answer.the-variants as Answers;
+ghost use Rattle.answers.specs.Question.{ask};
 ghost use Rattle.ledger.specs.Line.{lineInto};
+ghost use Rattle.batch.specs.Batch.{sharing, batch};
+ghost use Rattle.audit.specs.Audit.{audit};
 ghost use Rattle.exported.specs.Words as Numbers;
 ghost use Rattle.exported.specs.Parts as Parts;
 
@@ -255,75 +255,40 @@ fn in_words(a: Answer) -> Words
     }
 }
 
-fn el2(pamax: u64, hcr: u64, vtcr: u64, vttbr: u64, sctlr: u64) -> El2
-    ensures { λ r. ⌜ r ≡ Numbers.el2 pamax hcr vtcr vttbr sctlr ⌝ }
-{
-    El2 {
-        pamax,
-        hcr: Hcr(hcr),
-        vtcr: Vtcr(vtcr),
-        vttbr,
-        sctlr: Sctlr(sctlr),
-    }
-}
-
-fn el1(sctlr: u64, tcr: u64, ttbr0: u64, ttbr1: u64, mair: u64) -> El1
-    ensures { λ r. ⌜ r ≡ Numbers.el1 sctlr tcr ttbr0 ttbr1 mair ⌝ }
-{
-    El1 {
-        sctlr: Sctlr(sctlr),
-        tcr: Tcr(tcr),
-        ttbr0,
-        ttbr1,
-        mair,
-    }
-}
-
 // The question. A slice is a pointer and a length: of the capture's bytes, and of the log's words.
 #[no_mangle]
 pub extern "C" fn humpelkaas_translate(
     bytes: &[u8],
     base: u64,
-    pamax: u64,
-    hcr: u64,
-    vtcr: u64,
-    vttbr: u64,
-    sctlr2: u64,
-    sctlr1: u64,
-    tcr: u64,
-    ttbr0: u64,
-    ttbr1: u64,
-    mair: u64,
-    address: u64,
-    kind: u64,
-    el: u64,
-    size: u64,
+    r: El2,
+    g: El1,
+    a: Access,
     log: &mut [u64],
 ) -> Words
-    ensures answered { λ r. ⌜ r ≡ Numbers.words (Numbers.asked base (now (bytes .entry)) pamax hcr vtcr vttbr sctlr2 sctlr1 tcr ttbr0 ttbr1 mair address kind el size (now (log .entry)) .answer) ⌝ }
-    ensures logged { λ r. ⌜ now (log .exit) ≡ Numbers.asked base (now (bytes .entry)) pamax hcr vtcr vttbr sctlr2 sctlr1 tcr ttbr0 ttbr1 mair address kind el size (now (log .entry)) .log ⌝ }
+    ensures answered { λ w. ⌜ w ≡ Numbers.words (ask base (now (bytes .entry)) r g a (now (log .entry)) .answer) ⌝ }
+    ensures logged { λ w. ⌜ now (log .exit) ≡ ask base (now (bytes .entry)) r g a (now (log .entry)) .log ⌝ }
 {
-    let r = el2(pamax, hcr, vtcr, vttbr, sctlr2);
-    let g = el1(sctlr1, tcr, ttbr0, ttbr1, mair);
-    let a = Access {
-        address,
-        kind,
-        el,
-        size,
-    };
     in_words(question::translate(bytes, base, r, g, a, log))
 }
 
-// A batch's answer in numbers: its own, a settings refusal's item, and the figures of its ledger.
+// A batch's answer in numbers: its own, a settings refusal's item, and its ledger, which is 0 throughout where it has none.
 #[repr(C)]
 pub struct BatchWords {
     pub number: u64,
     pub item: u64,
-    pub asked: u64,
-    pub translated: u64,
-    pub faulted: u64,
-    pub absent: u64,
-    pub unsettled: u64,
+    pub ledger: Ledger,
+}
+
+fn no_ledger() -> Ledger
+    ensures { λ l. ⌜ l ≡ Numbers.noLedger ⌝ }
+{
+    Ledger {
+        asked: 0,
+        translated: 0,
+        faulted: 0,
+        absent: 0,
+        unsettled: 0,
+    }
 }
 
 fn batch_in_words(a: BatchAnswer) -> BatchWords
@@ -331,23 +296,15 @@ fn batch_in_words(a: BatchAnswer) -> BatchWords
 {
     let number = batch::number(a);
     match a {
-        BatchAnswer::Done(l) => BatchWords {
+        BatchAnswer::Done(ledger) => BatchWords {
             number,
             item: 0,
-            asked: l.asked,
-            translated: l.translated,
-            faulted: l.faulted,
-            absent: l.absent,
-            unsettled: l.unsettled,
+            ledger,
         },
         BatchAnswer::Refused(why) => BatchWords {
             number,
             item: item_of(why),
-            asked: 0,
-            translated: 0,
-            faulted: 0,
-            absent: 0,
-            unsettled: 0,
+            ledger: no_ledger(),
         },
     }
 }
@@ -357,16 +314,8 @@ fn batch_in_words(a: BatchAnswer) -> BatchWords
 pub extern "C" fn humpelkaas_batch(
     bytes: &[u8],
     base: u64,
-    pamax: u64,
-    hcr: u64,
-    vtcr: u64,
-    vttbr: u64,
-    sctlr2: u64,
-    sctlr1: u64,
-    tcr: u64,
-    ttbr0: u64,
-    ttbr1: u64,
-    mair: u64,
+    r: El2,
+    g: El1,
     kind: u64,
     el: u64,
     size: u64,
@@ -374,12 +323,10 @@ pub extern "C" fn humpelkaas_batch(
     outputs: &mut [u64],
     numbers: &mut [u64],
 ) -> BatchWords
-    ensures answered { λ w. ⌜ w ≡ Numbers.batchWords (Numbers.batched base (now (bytes .entry)) pamax hcr vtcr vttbr sctlr2 sctlr1 tcr ttbr0 ttbr1 mair kind el size (now (addresses .entry)) (now (outputs .entry)) (now (numbers .entry)) .answer) ⌝ }
-    ensures placed { λ w. ⌜ now (outputs .exit) ≡ Numbers.batched base (now (bytes .entry)) pamax hcr vtcr vttbr sctlr2 sctlr1 tcr ttbr0 ttbr1 mair kind el size (now (addresses .entry)) (now (outputs .entry)) (now (numbers .entry)) .outputs ⌝ }
-    ensures numbered { λ w. ⌜ now (numbers .exit) ≡ Numbers.batched base (now (bytes .entry)) pamax hcr vtcr vttbr sctlr2 sctlr1 tcr ttbr0 ttbr1 mair kind el size (now (addresses .entry)) (now (outputs .entry)) (now (numbers .entry)) .numbers ⌝ }
+    ensures answered { λ w. ⌜ w ≡ Numbers.batchWords (batch base (now (bytes .entry)) (sharing r g kind el size) (now (addresses .entry)) (now (outputs .entry)) (now (numbers .entry)) .answer) ⌝ }
+    ensures placed { λ w. ⌜ now (outputs .exit) ≡ batch base (now (bytes .entry)) (sharing r g kind el size) (now (addresses .entry)) (now (outputs .entry)) (now (numbers .entry)) .outputs ⌝ }
+    ensures numbered { λ w. ⌜ now (numbers .exit) ≡ batch base (now (bytes .entry)) (sharing r g kind el size) (now (addresses .entry)) (now (outputs .entry)) (now (numbers .entry)) .numbers ⌝ }
 {
-    let r = el2(pamax, hcr, vtcr, vttbr, sctlr2);
-    let g = el1(sctlr1, tcr, ttbr0, ttbr1, mair);
     batch_in_words(batch::run(
         bytes,
         base,
@@ -430,19 +377,14 @@ fn audit_in_words(a: AuditAnswer) -> AuditWords
 pub extern "C" fn humpelkaas_audit(
     bytes: &[u8],
     base: u64,
-    pamax: u64,
-    hcr: u64,
-    vtcr: u64,
-    vttbr: u64,
-    sctlr2: u64,
+    r: El2,
     grants: &[u64],
     counts: &[u64],
     tables: &[u64],
     levels: &[u64],
 ) -> AuditWords
-    ensures answered { λ w. ⌜ w ≡ Numbers.auditWords (Numbers.audited base (now (bytes .entry)) pamax hcr vtcr vttbr sctlr2 (now (grants .entry)) (now (counts .entry)) (now (tables .entry)) (now (levels .entry))) ⌝ }
+    ensures answered { λ w. ⌜ w ≡ Numbers.auditWords (audit base (now (bytes .entry)) r (now (grants .entry)) (now (counts .entry)) (now (tables .entry)) (now (levels .entry))) ⌝ }
 {
-    let r = el2(pamax, hcr, vtcr, vttbr, sctlr2);
     audit_in_words(audit::audit(bytes, base, r, grants, counts, tables, levels))
 }
 
@@ -458,23 +400,9 @@ fn line_word(a: LineAnswer) -> u64
 
 // The ledger's line, over the first bytes of a buffer.
 #[no_mangle]
-pub extern "C" fn humpelkaas_ledger_line(
-    asked: u64,
-    translated: u64,
-    faulted: u64,
-    absent: u64,
-    unsettled: u64,
-    buffer: &mut [u8],
-) -> u64
-    ensures answered { λ n. ⌜ n ≡ Numbers.lineWord (lineInto (record { asked = asked; translated = translated; faulted = faulted; absent = absent; unsettled = unsettled }) (now (buffer .entry)) .answer) ⌝ }
-    ensures written { λ n. ⌜ now (buffer .exit) ≡ lineInto (record { asked = asked; translated = translated; faulted = faulted; absent = absent; unsettled = unsettled }) (now (buffer .entry)) .buffer ⌝ }
+pub extern "C" fn humpelkaas_ledger_line(l: Ledger, buffer: &mut [u8]) -> u64
+    ensures answered { λ n. ⌜ n ≡ Numbers.lineWord (lineInto l (now (buffer .entry)) .answer) ⌝ }
+    ensures written { λ n. ⌜ now (buffer .exit) ≡ lineInto l (now (buffer .entry)) .buffer ⌝ }
 {
-    let l = Ledger {
-        asked,
-        translated,
-        faulted,
-        absent,
-        unsettled,
-    };
     line_word(line::write_line(l, buffer))
 }

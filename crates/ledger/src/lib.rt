@@ -7,6 +7,7 @@ ghost use Rattle.ledger.specs.Ledger as Ledgers;
 pub mod line;
 
 // How many addresses a batch asked, and how many answers of each sort it had.
+#[repr(C)]
 pub struct Ledger {
     pub asked: u64,
     pub translated: u64,

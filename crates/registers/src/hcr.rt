@@ -2,6 +2,7 @@ ghost use mathlib.Core.Path.{_≡_};
 ghost use Rattle.registers.specs.Hcr as HcrFields;
 
 // HCR_EL2: where its flags lie.
+#[repr(C)]
 pub struct Hcr(pub u64);
 
 impl Hcr {

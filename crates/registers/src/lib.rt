@@ -10,6 +10,7 @@ pub mod tcr;
 pub mod vtcr;
 
 // The guest's registers.
+#[repr(C)]
 pub struct El1 {
     pub sctlr: Sctlr,
     pub tcr: Tcr,
@@ -19,6 +20,7 @@ pub struct El1 {
 }
 
 // The hypervisor's registers and the board's PAMax: all that stage 2 and the audit go by.
+#[repr(C)]
 pub struct El2 {
     pub pamax: u64,
     pub hcr: Hcr,

@@ -2,6 +2,7 @@ ghost use mathlib.Core.Path.{_≡_};
 ghost use Rattle.registers.specs.Sctlr as SctlrFields;
 
 // SCTLR_EL1 and SCTLR_EL2: where their flags lie.
+#[repr(C)]
 pub struct Sctlr(pub u64);
 
 impl Sctlr {

@@ -2,6 +2,7 @@ ghost use mathlib.Core.Path.{_≡_};
 ghost use Rattle.registers.specs.Tcr as TcrFields;
 
 // TCR_EL1: where its fields lie, and the masks of their values.
+#[repr(C)]
 pub struct Tcr(pub u64);
 
 impl Tcr {

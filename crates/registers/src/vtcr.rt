@@ -2,6 +2,7 @@ ghost use mathlib.Core.Path.{_≡_};
 ghost use Rattle.registers.specs.Vtcr as VtcrFields;
 
 // VTCR_EL2: where its fields lie, and the masks of their values.
+#[repr(C)]
 pub struct Vtcr(pub u64);
 
 impl Vtcr {

@@ -3,6 +3,7 @@ use crate::generate::Questions;
 use crate::proved::{self, BatchWords, Words};
 use crate::random::Random;
 use crate::walk::{self, Capture, Question};
+use humpelkaas::Ledger;
 use std::collections::BTreeMap;
 
 /// The longest list that is accepted.
@@ -55,19 +56,25 @@ fn expected(q: &Question, capture: Capture, addresses: &[u64], mut outputs: Vec<
     if first.number >= 10 {
         return refused(first.number, first.item, outputs, numbers);
     }
-    let mut words = BatchWords { asked: addresses.len() as u64, ..BatchWords::default() };
+    let mut ledger = Ledger { asked: addresses.len() as u64, ..Ledger::default() };
     for (i, address) in addresses.iter().enumerate() {
         let answer = ask(*address);
         numbers[i] = answer.number;
         outputs[i] = if answer.number == 0 { answer.address } else { 0 };
         *match answer.number {
-            0 => &mut words.translated,
-            1..=5 => &mut words.faulted,
-            6 => &mut words.absent,
-            _ => &mut words.unsettled,
+            0 => &mut ledger.translated,
+            1..=5 => &mut ledger.faulted,
+            6 => &mut ledger.absent,
+            _ => &mut ledger.unsettled,
         } += 1;
     }
-    Told { words, outputs, numbers }
+    Told { words: BatchWords { ledger, ..BatchWords::default() }, outputs, numbers }
+}
+
+/// The ledger's line, as document 01 shows it.
+fn line(ledger: &Ledger) -> String {
+    let Ledger { asked, translated, faulted, absent, unsettled } = ledger;
+    format!("asked {asked} translated {translated} faulted {faulted} absent {absent} unsettled {unsettled}")
 }
 
 /// How often each sort of batch was met.
@@ -97,9 +104,8 @@ impl Met {
     fn meet(&mut self, length: usize, words: &BatchWords) {
         self.add(format!("answer {:2}", words.number), 1);
         self.add(format!("length {length:4}"), 1);
-        for (sort, count) in
-            [("translated", words.translated), ("faulted", words.faulted), ("absent", words.absent), ("unsettled", words.unsettled)]
-        {
+        let Ledger { asked: _, translated, faulted, absent, unsettled } = words.ledger;
+        for (sort, count) in [("translated", translated), ("faulted", faulted), ("absent", absent), ("unsettled", unsettled)] {
             self.add(format!("addresses {sort}"), count);
         }
     }
@@ -124,7 +130,7 @@ pub fn compare(count: u64, seed: u64) -> (u64, Vec<String>) {
         let mut told = Told { words: BatchWords::default(), outputs, numbers };
         told.words = proved::batch(q, capture, &list, &mut told.outputs, &mut told.numbers);
         met.meet(list.len(), &wanted.words);
-        if told != wanted || image.bytes != image.copy {
+        if told != wanted || told.words.ledger.to_string() != line(&wanted.words.ledger) || image.bytes != image.copy {
             differ += 1;
             let first = told.numbers.iter().zip(&wanted.numbers).zip(told.outputs.iter().zip(&wanted.outputs));
             let at = first.take_while(|((a, b), (c, d))| a == b && c == d).count();

@@ -1,42 +1,39 @@
 //! The proved functions on the walk's questions, and the walk's answers in their words.
 use crate::audit::{self, Lists, Verdict};
 use crate::walk::{Answer, Cacheability, Capture, Cause, Memory, Question, Refusal};
-pub use calls::{AuditWords, BatchWords, Words};
+use humpelkaas::calls::{self, Access};
+pub use humpelkaas::calls::{AuditWords, BatchWords, Words};
+use humpelkaas::{El1, El2};
 
-fn shared(q: &Question) -> calls::Question {
-    calls::Question {
-        pamax: q.pamax,
-        hcr_el2: q.hcr_el2,
-        vtcr_el2: q.vtcr_el2,
-        vttbr_el2: q.vttbr_el2,
-        sctlr_el2: q.sctlr_el2,
-        sctlr_el1: q.sctlr_el1,
-        tcr_el1: q.tcr_el1,
-        ttbr0_el1: q.ttbr0_el1,
-        ttbr1_el1: q.ttbr1_el1,
-        mair_el1: q.mair_el1,
-        kind: q.kind,
-        el: q.el,
-        size: q.size,
-    }
+fn el2(q: &Question) -> El2 {
+    El2 { pamax: q.pamax, hcr_el2: q.hcr_el2, vtcr_el2: q.vtcr_el2, vttbr_el2: q.vttbr_el2, sctlr_el2: q.sctlr_el2 }
 }
 
-fn of(capture: Capture) -> calls::Capture {
-    calls::Capture { base: capture.base, bytes: capture.bytes }
+fn el1(q: &Question) -> El1 {
+    El1 { sctlr_el1: q.sctlr_el1, tcr_el1: q.tcr_el1, ttbr0_el1: q.ttbr0_el1, ttbr1_el1: q.ttbr1_el1, mair_el1: q.mair_el1 }
+}
+
+fn access(q: &Question) -> Access {
+    Access { address: q.address, kind: q.kind, el: q.el, size: q.size }
+}
+
+fn of(capture: Capture) -> humpelkaas::Capture {
+    humpelkaas::Capture { base: capture.base, bytes: capture.bytes }
 }
 
 /// The comparison sees a write past the log, or into the capture.
 pub fn ask(q: &Question, capture: Capture, log: &mut [u64]) -> Words {
-    calls::ask(&shared(q), of(capture), q.address, log)
+    calls::translate(of(capture), el2(q), el1(q), access(q), log)
 }
 
 /// Asks of each address what the question asks of its own.
 pub fn batch(q: &Question, capture: Capture, addresses: &[u64], outputs: &mut [u64], numbers: &mut [u64]) -> BatchWords {
-    calls::batch(&shared(q), of(capture), addresses, outputs, numbers)
+    calls::batch(of(capture), el2(q), el1(q), access(q), addresses, outputs, numbers)
 }
 
 pub fn audit(q: &Question, capture: Capture, lists: &Lists) -> AuditWords {
-    calls::audit(&shared(q), of(capture), &lists.grants, &lists.counts, &lists.tables, &lists.levels)
+    let Lists { grants, counts, tables, levels } = lists;
+    calls::audit(of(capture), el2(q), calls::Lists { grants, counts, tables, levels })
 }
 
 fn cacheability_code(cacheability: Cacheability) -> u64 {

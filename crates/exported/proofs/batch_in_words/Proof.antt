@@ -14,5 +14,6 @@ batch-in-words-spec =
     (λ c. search needs)
     (λ c. search needs)
     (λ c κs. search needs)
+    (λ c κs. search needs)
     (λ c. rw (c .before .before .before .number .ensures, c .before .a .given .1))
-    (λ c. rw (c .before .before .before .before .number .ensures, c .item-of .ensures, c .before .before .a2 .given .1)))
+    (λ c. rw (c .before .before .before .before .before .number .ensures, c .before .item-of .ensures, c .no-ledger .ensures, c .before .before .before .a2 .given .1)))

@@ -10,5 +10,4 @@ humpelkaas-audit-spec =
     (tie.spec
     (λ c κs. search needs)
     (λ c κs. search needs)
-    (λ c κs. search needs)
-    (λ c. let t = rw (c .before .before .el2 .ensures) at (c .before .audit .ensures .0) in rw (← t) (c .audit-in-words .ensures)))
+    (λ c. rw (← c .before .audit .ensures .0) (c .audit-in-words .ensures)))

@@ -6,17 +6,13 @@ use Rattle.exported.proofs.humpelkaas_batch.Tie as tie
 
 returns : tie.Need-returns
 returns c =
-    let ran = c .before .before .before .before .before in
-    let stages = ran .before .before .before in
-    let t = rw (stages .before .el2 .ensures, stages .el1 .ensures) at (ran .run .ensures .0) in
+    let t = c .before .before .before .before .before .run .ensures .0 in
     (rw (← t .answered) (c .batch-in-words .ensures), (t .placed, t .numbered))
 
 pub humpelkaas-batch-spec : {M : Type 1} → statement M
 humpelkaas-batch-spec =
     tie.close
     (tie.spec
-    (λ c κs. search needs)
-    (λ c κs. search needs)
     (λ c κs. search needs)
     (λ c κs. search needs)
     (λ c. search needs)

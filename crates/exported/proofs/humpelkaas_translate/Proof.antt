@@ -6,10 +6,9 @@ use Rattle.exported.proofs.humpelkaas_translate.Tie as tie
 
 returns : tie.Need-returns
 returns c =
-    let asked = c .before .before .before in
-    let t = rw (asked .before .before .before .el2 .ensures, asked .before .before .el1 .ensures) at (asked .translate .ensures .0) in
+    let t = c .before .before .before .translate .ensures .0 in
     (rw (← t .answered) (c .in-words .ensures), t .logged)
 
 pub humpelkaas-translate-spec : {M : Type 1} → statement M
 humpelkaas-translate-spec =
-    tie.close (tie.spec (λ c κs. search needs) (λ c κs. search needs) (λ c κs. search needs) (λ c κs. search needs) (λ c. search needs) returns)
+    tie.close (tie.spec (λ c κs. search needs) (λ c κs. search needs) (λ c. search needs) returns)
