@@ -1,0 +1,87 @@
+//! What one guest can reach, gathered.
+use crate::progress::Progress;
+use crate::ranges::{joined, Range};
+use crate::reach::{self, Entry, Found};
+use crate::steps::span;
+use humpelkaas::{Attributes, Capture, Refusal, Registers};
+use std::collections::BTreeSet;
+
+const PAGE: u64 = 4096;
+
+/// Input addresses in a row that have physical addresses in a row, with the same rights and attributes.
+#[derive(Clone, Copy)]
+pub struct Mapped {
+    pub ipas: Range,
+    pub frames: Range,
+    pub rights: [bool; 3],
+    pub attributes: Attributes,
+}
+
+/// A guest.
+pub struct Guest {
+    pub name: String,
+    pub mapped: Vec<Mapped>,
+    /// The physical memory that it can reach.
+    pub frames: Vec<Range>,
+    /// The pages of stage 2's tables that its walks read.
+    pub tables: Vec<Range>,
+    /// What it was granted, if that was given.
+    pub grants: Option<Vec<Range>>,
+    /// IPAs whose tables are not in the capture, and the first missing descriptor.
+    pub absent: Vec<(Range, u64)>,
+    /// IPAs of which Arm leaves open what they are.
+    pub unsettled: Vec<Range>,
+}
+
+impl Mapped {
+    /// One entry's memory follows this.
+    fn goes_on(&self, next: &Mapped) -> bool {
+        self.ipas.end == next.ipas.start
+            && self.frames.end == next.frames.start
+            && (self.rights, self.attributes) == (next.rights, next.attributes)
+    }
+}
+
+impl Guest {
+    fn add(&mut self, entry: &Entry) {
+        let ipas = Range::new(entry.ipa, span(entry.level));
+        match entry.found {
+            Found::Memory { address, rights, attributes } => {
+                let next = Mapped { ipas, frames: Range::new(address, span(entry.level)), rights, attributes };
+                match self.mapped.last_mut() {
+                    Some(last) if last.goes_on(&next) => (last.ipas.end, last.frames.end) = (next.ipas.end, next.frames.end),
+                    _ => self.mapped.push(next),
+                }
+            }
+            Found::Absent { address } => match self.absent.last_mut() {
+                Some((last, _)) if last.end == ipas.start => last.end = ipas.end,
+                _ => self.absent.push((ipas, address)),
+            },
+            Found::Unsettled => self.unsettled.push(ipas),
+            Found::Nothing => {}
+        }
+    }
+
+    /// Goes through all that stage 2 gives a guest. Without a usable root there is nothing to go through, as for an audit.
+    pub fn gather(name: String, capture: Capture, registers: &Registers, grants: Option<Vec<Range>>) -> Result<Guest, Refusal> {
+        if !reach::confined(registers) {
+            return Err(Refusal::NoRoot);
+        }
+        let (frames, tables) = (Vec::new(), Vec::new());
+        let mut guest = Guest { name, mapped: Vec::new(), frames, tables, grants, absent: Vec::new(), unsettled: Vec::new() };
+        let mut pages = BTreeSet::new();
+        let mut last = None;
+        let progress = Progress::without_end();
+        for entry in reach::entries(capture, registers)? {
+            pages.extend(entry.reads.iter().map(|read| read & !(PAGE - 1)));
+            guest.add(&entry);
+            progress.reach(entry.ipa);
+            last = Some(entry.ipa);
+        }
+        progress.end();
+        last.ok_or(Refusal::NoRoot)?;
+        guest.frames = joined(guest.mapped.iter().map(|mapped| mapped.frames).collect());
+        guest.tables = joined(pages.into_iter().map(|page| Range::new(page, PAGE)).collect());
+        Ok(guest)
+    }
+}

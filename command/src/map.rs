@@ -1,0 +1,175 @@
+//! What guests can reach: a table, a picture, and what is wrong with it.
+use crate::arguments::Map;
+use crate::ask::hex;
+use crate::capture::CaptureFile;
+use crate::guest::Guest;
+use crate::lists;
+use crate::picture;
+use crate::probe::letters;
+use crate::ranges::{joined, shared, without, Range};
+use crate::refused;
+use crate::registers;
+use crate::results::{self, Results};
+use crate::scope;
+use crate::trouble::{standard_output, Status, Trouble};
+use humpelkaas::Grant;
+use serde_json::{json, Value};
+use std::fmt::Write as _;
+use std::io::Write;
+use std::path::Path;
+
+/// Something that should not be.
+pub struct Finding {
+    pub frames: Range,
+    pub what: String,
+}
+
+/// A number of bytes as people say it.
+fn bytes(size: u64) -> String {
+    const UNITS: [&str; 6] = ["B", "KiB", "MiB", "GiB", "TiB", "PiB"];
+    let mut unit = 0;
+    let mut number = size;
+    while number >= 1024 && number % 1024 == 0 && unit + 1 < UNITS.len() {
+        number /= 1024;
+        unit += 1;
+    }
+    format!("{number} {}", UNITS[unit])
+}
+
+fn granted(grants: Vec<Grant>) -> Vec<Range> {
+    joined(grants.iter().map(|grant| Range::new(grant.address, grant.bytes)).collect())
+}
+
+/// What two guests both reach, what a guest reaches of stage 2's tables, and what it reaches beyond its grants.
+fn findings(guests: &[Guest]) -> Vec<Finding> {
+    let mut findings = Vec::new();
+    let mut add = |frames: Vec<Range>, what: String| {
+        findings.extend(frames.into_iter().map(|frames| Finding { frames, what: what.clone() }));
+    };
+    for (index, guest) in guests.iter().enumerate() {
+        for other in &guests[index + 1..] {
+            add(shared(&guest.frames, &other.frames), format!("{} and {} both reach this", guest.name, other.name));
+        }
+        for owner in guests {
+            add(shared(&guest.frames, &owner.tables), format!("{} reaches stage 2 tables of {}", guest.name, owner.name));
+        }
+        if let Some(grants) = &guest.grants {
+            add(without(&guest.frames, grants), format!("{} reaches this beyond its grants", guest.name));
+        }
+    }
+    findings
+}
+
+fn guest_text(guest: &Guest) -> String {
+    let mut text = format!("{}\n", guest.name);
+    let rows: Vec<[String; 5]> = guest
+        .mapped
+        .iter()
+        .map(|m| [m.ipas.to_string(), m.frames.to_string(), bytes(m.ipas.size()), letters(m.rights), m.attributes.to_string()])
+        .collect();
+    let header = ["IPA", "physical", "size", "rights", "attributes"].map(String::from);
+    let width = |column: usize| rows.iter().chain([&header]).map(|row| row[column].len()).max().unwrap_or(0);
+    let widths = [width(0), width(1), width(2), width(3)];
+    for row in [&header].into_iter().chain(&rows) {
+        let [ipa, physical, size, rights, attributes] = row;
+        let [a, b, c, d] = widths;
+        let _ = writeln!(text, "  {ipa:<a$}  {physical:<b$}  {size:>c$}  {rights:<d$}  {attributes}");
+    }
+    for (ipas, address) in &guest.absent {
+        let _ = writeln!(text, "  {ipas}: not in the capture (first missing: the descriptor at {address:#x})");
+    }
+    for ipas in &guest.unsettled {
+        let _ = writeln!(text, "  {ipas}: unsettled by Arm");
+    }
+    let tables: Vec<String> = guest.tables.iter().map(Range::to_string).collect();
+    let _ = writeln!(text, "  stage 2's tables: {}", tables.join(", "));
+    text
+}
+
+fn text(guests: &[Guest], findings: &[Finding]) -> String {
+    let mut text: String = guests.iter().map(guest_text).collect();
+    for finding in findings {
+        let _ = writeln!(text, "! {}: {}", finding.frames, finding.what);
+    }
+    if guests.len() > 1 && findings.is_empty() {
+        text += "no two guests reach the same memory, and none reaches stage 2's tables\n";
+    }
+    text
+}
+
+fn guest_json(guest: &Guest) -> Value {
+    let range = |range: &Range| json!([hex(range.start), hex(range.end - 1)]);
+    let mapped = guest.mapped.iter().map(|mapped| {
+        json!({
+            "ipa": range(&mapped.ipas),
+            "physical": range(&mapped.frames),
+            "size": hex(mapped.ipas.size()),
+            "rights": letters(mapped.rights),
+            "memory": mapped.attributes.memory.to_string(),
+            "shareability": mapped.attributes.shareability.to_string(),
+        })
+    });
+    json!({
+        "guest": guest.name,
+        "mapped": mapped.collect::<Vec<_>>(),
+        "tables": guest.tables.iter().map(range).collect::<Vec<_>>(),
+        "absent": guest.absent.iter().map(|(ipas, at)| json!({ "ipa": range(ipas), "descriptor": hex(*at) })).collect::<Vec<_>>(),
+        "unsettled": guest.unsettled.iter().map(range).collect::<Vec<_>>(),
+    })
+}
+
+fn all_json(guests: &[Guest], findings: &[Finding], out_of_scope: &[&str]) -> Value {
+    let finding =
+        |finding: &Finding| json!({ "physical": [hex(finding.frames.start), hex(finding.frames.end - 1)], "words": finding.what });
+    json!({
+        "guests": guests.iter().map(guest_json).collect::<Vec<_>>(),
+        "findings": findings.iter().map(finding).collect::<Vec<_>>(),
+        "out_of_scope": out_of_scope,
+    })
+}
+
+/// A guest is called by its file of registers.
+fn name(path: &Path) -> String {
+    path.file_stem().unwrap_or(path.as_os_str()).to_string_lossy().into_owned()
+}
+
+fn draw(target: &Path, inputs: &[&Path], guests: &[Guest], findings: &[Finding]) -> Result<(), Trouble> {
+    results::not_an_input(target, inputs)?;
+    let mut results = Results::open(Some(target))?;
+    results.write(picture::svg(guests, findings).as_bytes())?;
+    results.finish()
+}
+
+pub fn run(arguments: &Map, out: &mut dyn Write) -> Result<Status, Trouble> {
+    if !arguments.grants.is_empty() && arguments.grants.len() != arguments.registers.len() {
+        return Err(Trouble::Usage("give --grants once for each --registers, in the same order".to_string()));
+    }
+    let capture = CaptureFile::read(&arguments.memory.capture, arguments.memory.base)?;
+    let mut guests = Vec::new();
+    let mut out_of_scope = Vec::new();
+    for (index, path) in arguments.registers.iter().enumerate() {
+        let registers = registers::read(path)?;
+        let bits = scope::bits(&registers);
+        scope::warn(&bits);
+        out_of_scope.extend(bits);
+        let grants = arguments.grants.get(index).map(|path| lists::grants(path)).transpose()?.map(granted);
+        match Guest::gather(name(path), capture.capture(), &registers, grants) {
+            Ok(guest) => guests.push(guest),
+            Err(refusal) => {
+                eprintln!("humpelkaas: {}: {}: {}", path.display(), refused::numbers(refusal), refused::explained(refusal));
+                return Ok(Status::Refused);
+            }
+        }
+    }
+    capture.unchanged()?;
+    let findings = findings(&guests);
+    if let Some(target) = &arguments.svg {
+        let inputs: Vec<&Path> =
+            [&arguments.memory.capture].into_iter().chain(&arguments.registers).chain(&arguments.grants).map(|p| p.as_path()).collect();
+        draw(target, &inputs, &guests, &findings)?;
+    }
+    let printed = if arguments.json { format!("{:#}\n", all_json(&guests, &findings, &out_of_scope)) } else { text(&guests, &findings) };
+    out.write_all(printed.as_bytes()).and_then(|()| out.flush()).map_err(standard_output)?;
+    let missing = guests.iter().any(|guest| !guest.absent.is_empty() || !guest.unsettled.is_empty());
+    Ok(if missing || !findings.is_empty() { Status::Incomplete } else { Status::Complete })
+}

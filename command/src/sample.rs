@@ -1,0 +1,133 @@
+//! A small sample: a capture of a board with two guests, one that moves the plate and one that converts the spectra.
+//!
+//! The first guest's tables are document 01's: a walk of three levels at each stage. The second has its own, with a page that it may only
+//! read and a block of 2 MiB.
+use crate::arguments::{Arguments, Sample};
+use crate::trouble::{self, standard_output, Status, Trouble};
+use clap::Parser;
+use std::fs;
+use std::io::{self, Write};
+use std::path::Path;
+
+const BASE: u64 = 0x4000_0000;
+const LENGTH: usize = 0x1_0000;
+
+/// Each word of the capture that is not 0, with its physical address.
+const WORDS: [(u64, u64); 22] = [
+    // The plate's stage 2: tables of levels 1, 2 and 3; its pages are the guest's three tables and its data.
+    (0x4000_0000, 0x4000_1003),
+    (0x4000_1000, 0x4000_2003),
+    (0x4000_2008, 0x4000_37ff),
+    (0x4000_2010, 0x4000_47ff),
+    (0x4000_2018, 0x4000_57ff),
+    (0x4000_2280, 0x9_07ff),
+    // Its stage 1: tables of levels 1, 2 and 3, at IPAs 0x1000, 0x2000 and 0x3000.
+    (0x4000_3000, 0x2003),
+    (0x4000_4000, 0x3003),
+    (0x4000_5008, 0x5_0743),
+    // The spectra's stage 2: the same shape, then a page to be read only, and a block that is not to be run.
+    (0x4000_8000, 0x4000_9003),
+    (0x4000_9000, 0x4000_a003),
+    (0x4000_9008, 0x0040_0000_8000_07fd),
+    (0x4000_a008, 0x4000_b7ff),
+    (0x4000_a010, 0x4000_c7ff),
+    (0x4000_a018, 0x4000_d7ff),
+    (0x4000_a280, 0xa_077f),
+    // Its stage 1.
+    (0x4000_b000, 0x2003),
+    (0x4000_c000, 0x3003),
+    (0x4000_c008, 0x20_0741),
+    (0x4000_d008, 0x5_0743),
+    (0x4000_d010, 0x5_1743),
+    (0x4000_d018, 0x5_0343),
+];
+
+const REGISTERS: &str = "\
+# What the hypervisor has for this guest, and the board's size of physical addresses
+PAMAX = 40
+HCR_EL2 = 0x80000001
+VTCR_EL2 = 0x20059
+VTTBR_EL2 = VTTBR
+SCTLR_EL2 = 0
+# The guest's own
+SCTLR_EL1 = 0x5
+TCR_EL1 = 0x200800019
+TTBR0_EL1 = 0x1000
+TTBR1_EL1 = 0
+MAIR_EL1 = 0xff
+";
+
+fn capture() -> Vec<u8> {
+    let mut bytes = vec![0; LENGTH];
+    for (address, word) in WORDS {
+        let at = (address - BASE) as usize;
+        bytes[at..at + 8].copy_from_slice(&word.to_le_bytes());
+    }
+    bytes
+}
+
+/// The sample's files.
+fn files() -> Vec<(&'static str, Vec<u8>)> {
+    let registers = |vttbr: &str| REGISTERS.replace("VTTBR\n", &format!("{vttbr}\n")).into_bytes();
+    let text = |text: &str| text.as_bytes().to_vec();
+    vec![
+        ("capture.bin", capture()),
+        ("plate.registers", registers("0x40000000")),
+        ("plate.addresses", text("0x1008\n0x2000\n")),
+        ("plate.grants", text("# address bytes\n0x90000 0x1000\n0x40003000 0x3000\n")),
+        ("plate.tables", text("# address level\n0x40001000 2\n0x40002000 3\n")),
+        ("spectra.registers", registers("0x40008000")),
+        ("spectra.addresses", text("0x1008\n0x2000\n0x3000\n0x200000\n0x3ffff8\n0x400000\n")),
+        ("spectra.grants", text("# address bytes\n0xa0000 0x1000\n0x4000b000 0x3000\n0x80000000 0x200000\n")),
+        ("spectra.tables", text("# address level\n0x40009000 2\n0x4000a000 3\n")),
+    ]
+}
+
+/// Writes a file of the sample. One that is there already and is not the sample's is left as it is.
+fn write(path: &Path, bytes: &[u8]) -> Result<(), Trouble> {
+    match fs::read(path) {
+        Ok(there) if there == bytes => Ok(()),
+        Ok(_) => Err(Trouble::Usage(format!("{} is there and is not the sample's: name another folder", path.display()))),
+        Err(error) if error.kind() == io::ErrorKind::NotFound => {
+            fs::write(path, bytes).map_err(|error| trouble::file("write", path, error))
+        }
+        Err(error) => Err(trouble::file("read", path, error)),
+    }
+}
+
+/// What is run over the sample, in its folder DIR.
+const RUNS: [&str; 6] = [
+    "ask 0x1008 --el 0 --capture DIR/capture.bin --base 0x40000000 --registers DIR/plate.registers",
+    "batch --el 0 --addresses DIR/plate.addresses --output DIR/plate.csv --capture DIR/capture.bin --base 0x40000000 --registers DIR/plate.registers",
+    "batch --el 0 --addresses DIR/spectra.addresses --output DIR/spectra.csv --capture DIR/capture.bin --base 0x40000000 --registers DIR/spectra.registers",
+    "audit --grants DIR/plate.grants --tables DIR/plate.tables --capture DIR/capture.bin --base 0x40000000 --registers DIR/plate.registers",
+    "audit --grants DIR/spectra.grants --tables DIR/spectra.tables --capture DIR/capture.bin --base 0x40000000 --registers DIR/spectra.registers",
+    "map --svg DIR/map.svg --capture DIR/capture.bin --base 0x40000000 --registers DIR/plate.registers --registers DIR/spectra.registers --grants DIR/plate.grants --grants DIR/spectra.grants",
+];
+
+fn run_one(line: &str, folder: &Path, out: &mut dyn Write) -> Result<Status, Trouble> {
+    let shown = line.replace("DIR", &folder.to_string_lossy());
+    writeln!(out, "\n$ humpelkaas {shown}").map_err(standard_output)?;
+    // By words and not by the line shown: a folder's name may have spaces.
+    let words = line.split(' ').map(|word| match word.strip_prefix("DIR/") {
+        Some(file) => folder.join(file).into_os_string(),
+        None => word.into(),
+    });
+    let arguments =
+        Arguments::try_parse_from(std::iter::once("humpelkaas".into()).chain(words)).map_err(|wrong| Trouble::Usage(wrong.to_string()))?;
+    crate::run(&arguments.verb, out)
+}
+
+pub fn run(arguments: &Sample, out: &mut dyn Write) -> Result<Status, Trouble> {
+    let folder = &arguments.folder;
+    fs::create_dir_all(folder).map_err(|error| trouble::file("make the folder", folder, error))?;
+    for (name, bytes) in files() {
+        write(&folder.join(name), &bytes)?;
+    }
+    writeln!(out, "A sample capture of two guests is in {}.", folder.display()).map_err(standard_output)?;
+    let mut whole = Status::Complete;
+    for line in RUNS {
+        whole = whole.max(run_one(line, folder, out)?);
+    }
+    Ok(whole)
+}

@@ -1,0 +1,27 @@
+//! Register bits that ask for what is out of scope, and that change answers on processors which have it.
+use humpelkaas::Registers;
+
+/// Hardware update of table flags, and hierarchical permission disables.
+const BITS: [(&str, u32, fn(&Registers) -> u64); 6] = [
+    ("TCR_EL1.HA", 39, |r| r.el1.tcr_el1),
+    ("TCR_EL1.HD", 40, |r| r.el1.tcr_el1),
+    ("TCR_EL1.HPD0", 41, |r| r.el1.tcr_el1),
+    ("TCR_EL1.HPD1", 42, |r| r.el1.tcr_el1),
+    ("VTCR_EL2.HA", 21, |r| r.el2.vtcr_el2),
+    ("VTCR_EL2.HD", 22, |r| r.el2.vtcr_el2),
+];
+
+/// Those that are set.
+pub fn bits(registers: &Registers) -> Vec<&'static str> {
+    BITS.iter().filter(|(_, bit, of)| of(registers) >> bit & 1 == 1).map(|(name, ..)| *name).collect()
+}
+
+/// Says on the error stream which those are.
+pub fn warn(bits: &[&str]) {
+    if !bits.is_empty() {
+        eprintln!(
+            "humpelkaas: warning: set and out of scope: {}: answers are those of Arm's first edition, which has none of these",
+            bits.join(", ")
+        );
+    }
+}
