@@ -447,7 +447,8 @@ static void audits(void)
     reset_lists();
     expect_audit("M", audit(2, 2), HUMPELKAAS_CLEAN, 0);
     expect_audit("M without the first grant",
-                 humpelkaas_audit(bytes, sizeof words, BASE, host(), grants + 1, 1, counts + 1, 1, tables, 2, levels, 2),
+                 humpelkaas_audit(bytes, sizeof words, BASE, host(), grants + 1, 1, counts + 1, 1, tables, 2,
+                                  levels, 2),
                  HUMPELKAAS_LEAF_OUTSIDE_GRANTS, 0x40002280);
     expect_audit("M without tables", audit(2, 0), HUMPELKAAS_TABLE_NOT_LISTED, 0x40000000);
     expect_audit("M without the level 3 table", audit(2, 1), HUMPELKAAS_TABLE_NOT_LISTED, 0x40001000);
@@ -474,10 +475,12 @@ static void audit_refusals(void)
     expect_audit_refused("M with 257 grants", audit(HUMPELKAAS_MOST_GRANTS + 1, 2), HUMPELKAAS_REFUSED_AUDIT_LISTS, 0);
     expect_audit_refused("M with 1025 tables", audit(2, HUMPELKAAS_MOST_TABLES + 1), HUMPELKAAS_REFUSED_AUDIT_LISTS, 0);
     expect_audit_refused("M with a grant that has no count",
-                         humpelkaas_audit(bytes, sizeof words, BASE, host(), grants, 2, counts, 1, tables, 2, levels, 2),
+                         humpelkaas_audit(bytes, sizeof words, BASE, host(), grants, 2, counts, 1, tables, 2,
+                                          levels, 2),
                          HUMPELKAAS_REFUSED_AUDIT_LISTS, 0);
     expect_audit_refused("M with a table that has no level",
-                         humpelkaas_audit(bytes, sizeof words, BASE, host(), grants, 2, counts, 2, tables, 2, levels, 1),
+                         humpelkaas_audit(bytes, sizeof words, BASE, host(), grants, 2, counts, 2, tables, 2,
+                                          levels, 1),
                          HUMPELKAAS_REFUSED_AUDIT_LISTS, 0);
     expect_audit_refused("M with stage 2 off", audit_at(BASE, sizeof words, off, 2, 2), HUMPELKAAS_REFUSED_ROOT, 0);
 }
