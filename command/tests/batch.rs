@@ -189,7 +189,7 @@ fn two_million_addresses() {
     let different = found.lines().zip(results.lines()).enumerate().find(|(_, (found, expected))| found != expected);
     assert_eq!(different, None);
     assert_eq!(found.len(), results.len());
-    assert!(kilobytes < 32 << 10, "{kilobytes} KB for a list of {} KB and results of {} KB", list.len() >> 10, results.len() >> 10);
+    assert!(kilobytes < 24 << 10, "{kilobytes} KB for a list of {} KB and results of {} KB", list.len() >> 10, results.len() >> 10);
     for line in found.lines().skip(1).step_by(66_667) {
         let fields: Vec<&str> = line.split(',').collect();
         let told = bench.over(&format!("ask {} --json --el 0", fields[0])).ends(0).json();
