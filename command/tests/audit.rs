@@ -1,7 +1,7 @@
 //! `humpelkaas audit`: case M, and each finding with the entry's value and what it maps.
 mod common;
 
-use common::{Bench, Memory, Ran, Registers};
+use common::{Bench, Memory, Ran, Registers, COMMAND};
 use serde_json::json;
 
 const GRANTS: &str = "0x90000 0x1000\n0x40003000 0x3000\n";
@@ -190,4 +190,28 @@ fn an_entry_with_two_ways_to_it() {
     // The way at IPA 0 is gone: entry 3 of the table of level 2 is IPAs 0x600000 on.
     let audit = Audit { grants: "0x40003000 0x3000\n", ..Audit::with(&[(0x4000_1000, 0), (0x4000_1018, 0x4000_2003)]) };
     audit.finds("finding 4 0x40002280", Some(&entry.replace("0x50", "0x650")), GRANT_IT);
+}
+
+/// A table that leads to itself is read at two levels on one walk. The finding is of its level 3: entry 1 of it as a table of level 2
+/// leads to it, and entry 0 of it is then a page.
+#[test]
+fn an_entry_at_two_levels() {
+    let audit = Audit { tables: "0x40001000 2\n0x40001000 3\n0x40002000 3\n", ..Audit::with(&[(0x4000_1008, 0x4000_17ff)]) };
+    let entry = "0x40002003: it maps IPAs 0x200000 to 0x200fff to physical 0x40002000 to 0x40002fff";
+    audit.finds("finding 4 0x40001000", Some(entry), GRANT_IT);
+}
+
+/// 512 ways to each of 512 ways to each entry: what an entry maps is found without going all of them.
+#[test]
+fn a_tree_that_is_shared() {
+    let all = |table: u64, word: u64| (0..512).map(move |index| (table + 8 * index, word));
+    let words = all(0x4000_0000, 0x4000_1003).chain(all(0x4000_1000, 0x4000_2003)).chain(all(0x4000_2000, 0x8000_07fd));
+    let memory = Memory::zeros(0x4000_0000, 0x4000).with(&words.chain([(0x4000_3008, 0x7_77ff)]).collect::<Vec<_>>());
+    // An input size of 48 bits, from level 0 on.
+    let bench = Bench::new(&memory, &Registers { pamax: 48, vtcr_el2: 0x5_0090, ..Registers::cases() });
+    bench.write("grants", "0x80000000 0x200000\n");
+    bench.write("tables", "0x40001000 1\n0x40002000 2\n0x40003000 3\n");
+    let mut command = bench.through("timeout", "5");
+    command.arg(COMMAND).args(bench.words("audit --grants grants --tables tables").split_whitespace());
+    Ran::of(command).ends(1).shows(&["finding 4 0x40003008\n", "the entry's value is 0x777ff: no IPA goes through it\n"]);
 }

@@ -1,13 +1,11 @@
 //! The outside answers of tests/vectors, put to the built command: all that it says of a question or an audit is held against them.
 mod common;
 
-use common::{Bench, Memory, Ran, Registers};
+use common::walk::{self, Place, Question, ADDRESS};
+use common::{Bench, Memory, Registers};
 use serde_json::{json, Value};
 use std::fs;
 use std::thread;
-
-/// The address bits of a descriptor or base register.
-const ADDRESS: u64 = 0xffff_ffff_f000;
 
 fn hex(text: &str) -> u64 {
     u64::from_str_radix(text, 16).unwrap_or_else(|_| panic!("'{text}' is not hexadecimal"))
@@ -30,44 +28,22 @@ fn words(pairs: &[&str]) -> Vec<(u64, u64)> {
     pairs.iter().map(word).collect()
 }
 
-/// A question: registers, access and capture.
-struct Question {
-    registers: Registers,
-    kind: u64,
-    el: u64,
-    size: u64,
-    address: u64,
-    memory: Memory,
-}
-
-impl Question {
-    /// From PAMAX KIND EL SIZE, the registers, and the address.
-    fn of(fields: &[&str], memory: Memory) -> Question {
-        let registers = Registers {
-            pamax: decimal(fields[0]),
-            sctlr_el1: hex(fields[4]),
-            tcr_el1: hex(fields[5]),
-            ttbr0_el1: hex(fields[6]),
-            ttbr1_el1: hex(fields[7]),
-            mair_el1: hex(fields[8]),
-            hcr_el2: hex(fields[9]),
-            vtcr_el2: hex(fields[10]),
-            vttbr_el2: hex(fields[11]),
-            sctlr_el2: hex(fields[12]),
-        };
-        let [kind, el, size] = [decimal(fields[1]), decimal(fields[2]), decimal(fields[3])];
-        Question { registers, kind, el, size, address: hex(fields[13]), memory }
-    }
-
-    fn ask(&self) -> Ran {
-        let access = format!("--kind {} --el {} --size {}", self.kind, self.el, self.size);
-        Bench::new(&self.memory, &self.registers).over(&format!("ask {:#x} {access} --json", self.address))
-    }
-
-    fn descriptor(&self, address: u64) -> u64 {
-        let from = (address - self.memory.base) as usize;
-        u64::from_le_bytes(self.memory.bytes[from..from + 8].try_into().expect("eight bytes"))
-    }
+/// From PAMAX KIND EL SIZE, the registers, and the address.
+fn question(fields: &[&str], memory: Memory) -> Question {
+    let registers = Registers {
+        pamax: decimal(fields[0]),
+        sctlr_el1: hex(fields[4]),
+        tcr_el1: hex(fields[5]),
+        ttbr0_el1: hex(fields[6]),
+        ttbr1_el1: hex(fields[7]),
+        mair_el1: hex(fields[8]),
+        hcr_el2: hex(fields[9]),
+        vtcr_el2: hex(fields[10]),
+        vttbr_el2: hex(fields[11]),
+        sctlr_el2: hex(fields[12]),
+    };
+    let access = format!("--kind {} --el {} --size {}", fields[1], fields[2], fields[3]);
+    Question { registers, access, address: hex(fields[13]), memory }
 }
 
 /// The memory type in words.
@@ -128,96 +104,6 @@ fn status(number: u64) -> i32 {
     }
 }
 
-/// Where a read belongs: stage, on-walk, level and address.
-type Place = (u64, bool, u64, u64);
-
-/// The reads that a question makes, by document 01's Walk over its memory, as far as descriptors are there: a walk that is ended by a
-/// fault is a beginning of them.
-struct Walk<'a> {
-    question: &'a Question,
-    places: Vec<Place>,
-    /// So many reads were made.
-    reads: usize,
-}
-
-impl Walk<'_> {
-    fn of(question: &Question, reads: usize) -> Vec<Place> {
-        let mut walk = Walk { question, places: Vec::new(), reads };
-        walk.access();
-        walk.places
-    }
-
-    /// Reads a descriptor, unless all are.
-    fn read(&mut self, stage: u64, on_walk: bool, level: u64, address: u64) -> Option<u64> {
-        (self.places.len() < self.reads).then(|| {
-            self.places.push((stage, on_walk, level, address));
-            self.question.descriptor(address)
-        })
-    }
-
-    /// The address of an entry. The root's index takes all bits of the input size, and its base is aligned to its length.
-    fn entry(input: u64, level: u64, base: u64, root_bits: Option<u64>) -> u64 {
-        let shift = 12 + 9 * (3 - level);
-        match root_bits {
-            Some(size) => {
-                let bits = size - shift;
-                (base & ADDRESS_AND_LOW & !((8 << bits) - 1)) | (input >> shift & ((1 << bits) - 1)) << 3
-            }
-            None => (base & ADDRESS) | (input >> shift & 0x1ff) << 3,
-        }
-    }
-
-    /// A leaf's output address, or none if this is a table.
-    fn output(descriptor: u64, input: u64, level: u64) -> Option<u64> {
-        let table = level < 3 && descriptor & 3 == 3;
-        let below = (1 << (12 + 9 * (3 - level))) - 1;
-        (!table).then(|| (descriptor & ADDRESS & !below) | (input & below))
-    }
-
-    fn stage2(&mut self, ipa: u64, on_walk: bool) -> Option<u64> {
-        let Registers { hcr_el2, vtcr_el2, vttbr_el2, .. } = self.question.registers;
-        if hcr_el2 & 0x1001 == 0 {
-            return Some(ipa);
-        }
-        let mut level = 2_u64.checked_sub(vtcr_el2 >> 6 & 3)?;
-        let mut address = Walk::entry(ipa, level, vttbr_el2, Some(64 - (vtcr_el2 & 0x3f)));
-        loop {
-            let descriptor = self.read(2, on_walk, level, address)?;
-            if let Some(output) = Walk::output(descriptor, ipa, level) {
-                return Some(output);
-            }
-            level += 1;
-            address = Walk::entry(ipa, level, descriptor, None);
-        }
-    }
-
-    fn access(&mut self) -> Option<u64> {
-        let Registers { hcr_el2, sctlr_el1, tcr_el1, ttbr0_el1, ttbr1_el1, .. } = self.question.registers;
-        let va = self.question.address;
-        if sctlr_el1 & 1 == 0 || hcr_el2 >> 12 & 1 == 1 {
-            return self.stage2(va & (1 << 48) - 1, false);
-        }
-        // With its tag the top bit is 55, else 63.
-        let tagged = tcr_el1 >> (37 + (va >> 55 & 1)) & 1 == 1;
-        let upper = va >> if tagged { 55 } else { 63 } & 1 == 1;
-        let (base, size) = if upper { (ttbr1_el1, 64 - (tcr_el1 >> 16 & 0x3f)) } else { (ttbr0_el1, 64 - (tcr_el1 & 0x3f)) };
-        let mut level = 4 - (size - 12 + 8) / 9;
-        let mut ipa = Walk::entry(va, level, base, Some(size));
-        loop {
-            let address = self.stage2(ipa, true)?;
-            let descriptor = self.read(1, false, level, address)?;
-            if let Some(output) = Walk::output(descriptor, va, level) {
-                return self.stage2(output, false);
-            }
-            level += 1;
-            ipa = Walk::entry(va, level, descriptor, None);
-        }
-    }
-}
-
-/// A short root may begin below a page.
-const ADDRESS_AND_LOW: u64 = (1 << 48) - 1;
-
 fn place(step: &Value) -> Place {
     let number = |name: &str| step[name].as_u64().unwrap_or_else(|| panic!("{name} of {step}"));
     let address = step["address"].as_str().and_then(|text| text.strip_prefix("0x")).expect("an address");
@@ -273,7 +159,7 @@ fn check_question(line: &str) {
     let parts = parts(line);
     let fields = &parts[0];
     let memory = Memory::zeros(hex(fields[15]), hex(fields[16]) as usize).with(&words(&parts[1]));
-    let question = Question::of(&fields[1..], memory);
+    let question = question(&fields[1..], memory);
     let mut expected = answer(&parts[2]);
     let number = expected["number"].as_u64().expect("a number");
     // The command lends a log of its own.
@@ -288,19 +174,26 @@ fn check_question(line: &str) {
         }
     }
     assert_eq!(told["answer"], expected);
+    let batch = question.batch().ends(status(number));
+    if number < 10 {
+        let output = if number == 0 { expected["address"].as_str().unwrap_or("") } else { "0x0" };
+        assert_eq!(batch.stdout.lines().nth(1), Some(format!("{:#x},{number},{output}", question.address).as_str()));
+    } else {
+        batch.prints("").warns(&[&format!("refused {number}")]);
+    }
     assert_eq!(told["reads"], json!(log.len()));
     let steps = told["steps"].as_array().expect("steps");
     let places: Vec<Place> = steps.iter().map(place).collect();
     assert_eq!(places.iter().map(|place| place.3).collect::<Vec<_>>(), log);
-    assert_eq!(places, Walk::of(&question, log.len()));
+    assert_eq!(places, walk::reads(&question, log.len()));
     for (step, address) in steps.iter().zip(log) {
-        check_step(step, question.descriptor(address));
+        check_step(step, question.memory.descriptor(address).expect("what was read"));
     }
 }
 
 fn check_emulated(line: &str) {
     let parts = parts(line);
-    let question = Question::of(&parts[0], Memory::zeros(0x4000_0000, 0x40_0000).with(&words(&parts[1])));
+    let question = question(&parts[0], Memory::zeros(0x4000_0000, 0x40_0000).with(&words(&parts[1])));
     let told = question.ask().ends(0).json();
     let found = &told["answer"];
     match parts[2][..] {
@@ -322,7 +215,7 @@ fn check_emulated(line: &str) {
         _ => panic!("no answer of an emulator: {line}"),
     }
     let steps = told["steps"].as_array().expect("steps");
-    assert_eq!(steps.iter().map(place).collect::<Vec<_>>(), Walk::of(&question, steps.len()));
+    assert_eq!(steps.iter().map(place).collect::<Vec<_>>(), walk::reads(&question, steps.len()));
 }
 
 fn check_audit(line: &str) {
@@ -361,13 +254,28 @@ fn check_audit(line: &str) {
     };
     let ran = bench.over("audit --grants grants --tables tables").ends(status);
     assert_eq!(ran.first_line(), first);
-    if let ["finding", number, address] = parts[3][..] {
-        let value = u64::from_le_bytes(
-            memory.bytes.get((hex(address) - memory.base) as usize..).map_or([0; 8], |bytes| bytes[..8].try_into().expect("eight bytes")),
-        );
-        let said = format!("\nthe entry's value is {value:#x}: ");
-        assert_eq!(ran.stdout.contains(&said), ["3", "4"].contains(&number), "{}", ran.stdout);
+    match parts[3][..] {
+        // Whatever the guest does, it stays within its grants and does not reach stage 2's tables.
+        ["clean"] => assert_eq!(bench.over("map --grants grants --json").json()["findings"], json!([])),
+        ["finding", number, address] => check_entry(&bench, &memory, &registers, number, hex(address)),
+        _ => {}
     }
+}
+
+/// What an audit says of an entry: its value, and the first IPAs that go through it.
+fn check_entry(bench: &Bench, memory: &Memory, registers: &Registers, number: &str, address: u64) {
+    let told = bench.over("audit --grants grants --tables tables --json").ends(1).json();
+    let table = match number {
+        "3" => true,
+        "4" => false,
+        _ => return assert_eq!(told["entry"], Value::Null),
+    };
+    let value = memory.descriptor(address).expect("the entry");
+    let through = walk::through(memory, registers, address, table).map(|(ipa, size)| {
+        let to = value & ADDRESS & !(if table { 0x1000 } else { size } - 1);
+        json!({ "ipa": format!("{ipa:#x}"), "size": format!("{size:#x}"), "to": format!("{to:#x}"), "table": table })
+    });
+    assert_eq!(told["entry"], json!({ "value": format!("{value:#x}"), "through": through }));
 }
 
 #[test]

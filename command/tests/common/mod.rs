@@ -3,6 +3,7 @@
 
 pub mod held;
 pub mod system;
+pub mod walk;
 
 use serde_json::Value;
 use std::fmt::Debug;
@@ -104,6 +105,12 @@ impl Memory {
             }
         }
         self
+    }
+
+    /// The word at an address, if all of it is here.
+    pub fn descriptor(&self, address: u64) -> Option<u64> {
+        let from = usize::try_from(address.checked_sub(self.base)?).ok()?;
+        Some(u64::from_le_bytes(self.bytes.get(from..from.checked_add(8)?)?.try_into().ok()?))
     }
 
     pub fn cut(mut self, length: usize) -> Memory {
