@@ -4,7 +4,8 @@ mod common;
 use common::{Bench, Memory, Ran, Registers};
 use serde_json::{json, Value};
 use std::io::Write;
-use std::process::Stdio;
+use std::process::{Child, Stdio};
+use std::time::Duration;
 
 const HEADER: &str = "address,answer,output\n";
 
@@ -160,11 +161,21 @@ fn spread(count: usize) -> Vec<u64> {
     (0..count).map(|_| one(next())).collect()
 }
 
-/// The most memory that a process that still runs has had, in kilobytes.
-fn most_memory(process: u32) -> u64 {
-    let status = std::fs::read_to_string(format!("/proc/{process}/status")).expect("the status of a process");
-    let line = status.lines().find_map(|line| line.strip_prefix("VmHWM:")).expect("VmHWM");
-    line.trim().trim_end_matches(" kB").parse().expect("kilobytes")
+/// The most memory that a process has had, in kilobytes, while there is such a process.
+fn most_memory(process: u32) -> Option<u64> {
+    let status = std::fs::read_to_string(format!("/proc/{process}/status")).ok()?;
+    let line = status.lines().find_map(|line| line.strip_prefix("VmHWM:"))?;
+    line.trim().trim_end_matches(" kB").parse().ok()
+}
+
+/// Looks at a run's memory until it ends, and gives the most that it had.
+fn watched(mut child: Child) -> (u64, Ran) {
+    let mut most = 0;
+    while child.try_wait().expect("the command ends").is_none() {
+        most = most_memory(child.id()).unwrap_or(most);
+        std::thread::sleep(Duration::from_millis(1));
+    }
+    (most, child.wait_with_output().expect("what it printed").into())
 }
 
 /// Two million addresses come out in order, all of them, in bounded memory.
@@ -179,9 +190,8 @@ fn two_million_addresses() {
     let mut child = command.spawn().expect("the command runs");
     let mut stdin = child.stdin.take().expect("its standard input");
     stdin.write_all(list.as_bytes()).expect("the command takes addresses");
-    let kilobytes = most_memory(child.id());
     drop(stdin);
-    let ran = Ran::from(child.wait_with_output().expect("the command ends"));
+    let (kilobytes, ran) = watched(child);
     let (results, ledger) = expected(&addresses);
     ran.ends(0).prints(&ledger).says("");
     let found = bench.text("out.csv");
@@ -189,7 +199,8 @@ fn two_million_addresses() {
     let different = found.lines().zip(results.lines()).enumerate().find(|(_, (found, expected))| found != expected);
     assert_eq!(different, None);
     assert_eq!(found.len(), results.len());
-    assert!(kilobytes < 24 << 10, "{kilobytes} KB for a list of {} KB and results of {} KB", list.len() >> 10, results.len() >> 10);
+    let bounds = 1 << 10..24 << 10;
+    assert!(bounds.contains(&kilobytes), "{kilobytes} KB for a list of {} KB and results of {} KB", list.len() >> 10, results.len() >> 10);
     for line in found.lines().skip(1).step_by(66_667) {
         let fields: Vec<&str> = line.split(',').collect();
         let told = bench.over(&format!("ask {} --json --el 0", fields[0])).ends(0).json();
