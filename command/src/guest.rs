@@ -62,6 +62,11 @@ impl Guest {
         }
     }
 
+    /// All that it can reach is known.
+    pub fn is_whole(&self) -> bool {
+        self.absent.is_empty() && self.unsettled.is_empty()
+    }
+
     /// Goes through all that stage 2 gives a guest. Without a usable root there is nothing to go through, as for an audit.
     pub fn gather(name: String, capture: Capture, registers: &Registers, grants: Option<Vec<Range>>) -> Result<Guest, Refusal> {
         if !reach::confined(registers) {

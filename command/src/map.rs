@@ -14,7 +14,7 @@ use crate::scope;
 use crate::trouble::{standard_output, Status, Trouble};
 use humpelkaas::Grant;
 use serde_json::{json, Value};
-use std::fmt::Write as _;
+use std::fmt::{self, Write as _};
 use std::io::Write;
 use std::path::Path;
 
@@ -22,6 +22,12 @@ use std::path::Path;
 pub struct Finding {
     pub frames: Range,
     pub what: String,
+}
+
+impl fmt::Display for Finding {
+    fn fmt(&self, f: &mut fmt::Formatter) -> fmt::Result {
+        write!(f, "{}: {}", self.frames, self.what)
+    }
 }
 
 /// A number of bytes as people say it.
@@ -89,9 +95,9 @@ fn guest_text(guest: &Guest) -> String {
 fn text(guests: &[Guest], findings: &[Finding]) -> String {
     let mut text: String = guests.iter().map(guest_text).collect();
     for finding in findings {
-        let _ = writeln!(text, "! {}: {}", finding.frames, finding.what);
+        let _ = writeln!(text, "! {finding}");
     }
-    if guests.len() > 1 && findings.is_empty() {
+    if guests.len() > 1 && findings.is_empty() && guests.iter().all(Guest::is_whole) {
         text += "no two guests reach the same memory, and none reaches stage 2's tables\n";
     }
     text
@@ -170,6 +176,6 @@ pub fn run(arguments: &Map, out: &mut dyn Write) -> Result<Status, Trouble> {
     }
     let printed = if arguments.json { format!("{:#}\n", all_json(&guests, &findings, &out_of_scope)) } else { text(&guests, &findings) };
     out.write_all(printed.as_bytes()).and_then(|()| out.flush()).map_err(standard_output)?;
-    let missing = guests.iter().any(|guest| !guest.absent.is_empty() || !guest.unsettled.is_empty());
-    Ok(if missing || !findings.is_empty() { Status::Incomplete } else { Status::Complete })
+    let whole = guests.iter().all(Guest::is_whole);
+    Ok(if whole && findings.is_empty() { Status::Complete } else { Status::Incomplete })
 }
