@@ -6,12 +6,14 @@ use crate::lists;
 use crate::reach::{self, Entry, Found};
 use crate::refused;
 use crate::registers;
+use crate::results;
 use crate::scope;
 use crate::steps::span;
 use crate::trouble::{standard_output, Status, Trouble};
 use humpelkaas::{audit, AuditAnswer, Finding, Registers};
 use serde_json::{json, Value};
 use std::io::Write;
+use std::path::PathBuf;
 
 /// What an entry of stage 2's tables maps.
 struct Maps {
@@ -110,10 +112,10 @@ fn text(answer: &AuditAnswer, maps: Option<&Maps>, counts: (usize, usize)) -> St
 }
 
 fn answer_json(answer: &AuditAnswer, maps: Option<&Maps>, out_of_scope: &[&str]) -> Value {
-    let (number, item, address) = match answer {
-        AuditAnswer::Clean => (0, None, None),
-        AuditAnswer::Found { finding, address } => (finding.number(), None, Some(hex(*address))),
-        AuditAnswer::Refused(refusal) => (refusal.number(), refusal.item(), None),
+    let (number, item, address, what_to_do) = match answer {
+        AuditAnswer::Clean => (0, None, None, None),
+        AuditAnswer::Found { finding, address } => (finding.number(), None, Some(hex(*address)), Some(advice(*finding))),
+        AuditAnswer::Refused(refusal) => (refusal.number(), refusal.item(), None, Some(refused::advice(*refusal))),
     };
     json!({
         "answer": first(answer),
@@ -121,12 +123,15 @@ fn answer_json(answer: &AuditAnswer, maps: Option<&Maps>, out_of_scope: &[&str])
         "item": item,
         "address": address,
         "words": answer.to_string(),
+        "what_to_do": what_to_do,
         "entry": maps.map(Maps::json),
         "out_of_scope": out_of_scope,
     })
 }
 
 pub fn run(arguments: &Audit, out: &mut dyn Write) -> Result<Status, Trouble> {
+    let inputs = [&arguments.memory.capture, &arguments.guest.registers, &arguments.grants, &arguments.tables];
+    results::not_an_input(None, &inputs.map(PathBuf::as_path))?;
     let registers = registers::read(&arguments.guest.registers)?;
     let out_of_scope = scope::bits(&registers);
     scope::warn(&out_of_scope);

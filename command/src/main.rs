@@ -63,10 +63,11 @@ fn main() -> ExitCode {
             };
         }
     };
-    match run(&arguments.verb, &mut std::io::stdout()) {
+    let ended = results::standard_output_is_open().and_then(|()| run(&arguments.verb, &mut std::io::stdout()));
+    match ended {
         Ok(status) => ExitCode::from(status as u8),
         Err(trouble) => {
-            eprintln!("humpelkaas: {trouble}");
+            trouble::say(&trouble.to_string());
             ExitCode::from(trouble.status())
         }
     }

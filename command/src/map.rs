@@ -11,12 +11,12 @@ use crate::refused;
 use crate::registers;
 use crate::results::{self, Results};
 use crate::scope;
-use crate::trouble::{standard_output, Status, Trouble};
-use humpelkaas::Grant;
+use crate::trouble::{say, standard_output, Status, Trouble};
+use humpelkaas::{audit, AuditAnswer, Capture, Grant, Refusal, Registers};
 use serde_json::{json, Value};
 use std::fmt::{self, Write as _};
 use std::io::Write;
-use std::path::Path;
+use std::path::{Path, PathBuf};
 
 /// Something that should not be.
 pub struct Finding {
@@ -139,17 +139,28 @@ fn name(path: &Path) -> String {
     path.file_stem().unwrap_or(path.as_os_str()).to_string_lossy().into_owned()
 }
 
-fn draw(target: &Path, inputs: &[&Path], guests: &[Guest], findings: &[Finding]) -> Result<(), Trouble> {
-    results::not_an_input(target, inputs)?;
+fn draw(target: &Path, guests: &[Guest], findings: &[Finding]) -> Result<(), Trouble> {
     let mut results = Results::open(Some(target))?;
     results.write(picture::svg(guests, findings).as_bytes())?;
     results.finish()
+}
+
+/// A guest, by its files. Its grants must be what an audit takes.
+fn guest(capture: Capture, name: String, registers: &Registers, grants: Option<Vec<Grant>>) -> Result<Guest, Refusal> {
+    if let Some(grants) = &grants {
+        if let AuditAnswer::Refused(refusal) = audit(capture, &registers.el2, grants, &[]) {
+            return Err(refusal);
+        }
+    }
+    Guest::gather(name, capture, registers, grants.map(granted))
 }
 
 pub fn run(arguments: &Map, out: &mut dyn Write) -> Result<Status, Trouble> {
     if !arguments.grants.is_empty() && arguments.grants.len() != arguments.registers.len() {
         return Err(Trouble::Usage("give --grants once for each --registers, in the same order".to_string()));
     }
+    let inputs = [&arguments.memory.capture].into_iter().chain(&arguments.registers).chain(&arguments.grants);
+    results::not_an_input(arguments.svg.as_deref(), &inputs.map(PathBuf::as_path).collect::<Vec<_>>())?;
     let capture = CaptureFile::read(&arguments.memory.capture, arguments.memory.base)?;
     let mut guests = Vec::new();
     let mut out_of_scope = Vec::new();
@@ -158,11 +169,11 @@ pub fn run(arguments: &Map, out: &mut dyn Write) -> Result<Status, Trouble> {
         let bits = scope::bits(&registers);
         scope::warn(&bits);
         out_of_scope.extend(bits);
-        let grants = arguments.grants.get(index).map(|path| lists::grants(path)).transpose()?.map(granted);
-        match Guest::gather(name(path), capture.capture(), &registers, grants) {
+        let grants = arguments.grants.get(index).map(|path| lists::grants(path)).transpose()?;
+        match guest(capture.capture(), name(path), &registers, grants) {
             Ok(guest) => guests.push(guest),
             Err(refusal) => {
-                eprintln!("humpelkaas: {}: {}: {}", path.display(), refused::numbers(refusal), refused::explained(refusal));
+                say(&format!("{}: {}: {}", path.display(), refused::numbers(refusal), refused::explained(refusal)));
                 return Ok(Status::Refused);
             }
         }
@@ -170,9 +181,7 @@ pub fn run(arguments: &Map, out: &mut dyn Write) -> Result<Status, Trouble> {
     capture.unchanged()?;
     let findings = findings(&guests);
     if let Some(target) = &arguments.svg {
-        let inputs: Vec<&Path> =
-            [&arguments.memory.capture].into_iter().chain(&arguments.registers).chain(&arguments.grants).map(|p| p.as_path()).collect();
-        draw(target, &inputs, &guests, &findings)?;
+        draw(target, &guests, &findings)?;
     }
     let printed = if arguments.json { format!("{:#}\n", all_json(&guests, &findings, &out_of_scope)) } else { text(&guests, &findings) };
     out.write_all(printed.as_bytes()).and_then(|()| out.flush()).map_err(standard_output)?;

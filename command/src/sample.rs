@@ -9,6 +9,7 @@ use std::fs;
 use std::io::{self, Write};
 use std::path::Path;
 
+const CAPTURE: &str = "capture.bin";
 const BASE: u64 = 0x4000_0000;
 const LENGTH: usize = 0x1_0000;
 
@@ -71,7 +72,7 @@ fn files() -> Vec<(&'static str, Vec<u8>)> {
     let registers = |vttbr: &str| REGISTERS.replace("VTTBR\n", &format!("{vttbr}\n")).into_bytes();
     let text = |text: &str| text.as_bytes().to_vec();
     vec![
-        ("capture.bin", capture()),
+        (CAPTURE, capture()),
         ("plate.registers", registers("0x40000000")),
         ("plate.addresses", text("0x1008\n0x2000\n")),
         ("plate.grants", text("# address bytes\n0x90000 0x1000\n0x40003000 0x3000\n")),
@@ -93,6 +94,16 @@ fn write(path: &Path, bytes: &[u8]) -> Result<(), Trouble> {
         }
         Err(error) => Err(trouble::file("read", path, error)),
     }
+}
+
+/// Refuses a folder that has something else, so that no result takes the place of a file that is not the sample's.
+fn is_ours(folder: &Path) -> Result<(), Trouble> {
+    let wrong = |error| trouble::file("read the folder", folder, error);
+    let empty = fs::read_dir(folder).map_err(wrong)?.next().is_none();
+    if empty || fs::read(folder.join(CAPTURE)).map_or(false, |there| there == capture()) {
+        return Ok(());
+    }
+    Err(Trouble::Usage(format!("{} is not empty: name another folder", folder.display())))
 }
 
 /// What is run over the sample, in its folder DIR.
@@ -121,6 +132,7 @@ fn run_one(line: &str, folder: &Path, out: &mut dyn Write) -> Result<Status, Tro
 pub fn run(arguments: &Sample, out: &mut dyn Write) -> Result<Status, Trouble> {
     let folder = &arguments.folder;
     fs::create_dir_all(folder).map_err(|error| trouble::file("make the folder", folder, error))?;
+    is_ours(folder)?;
     for (name, bytes) in files() {
         write(&folder.join(name), &bytes)?;
     }

@@ -1,4 +1,5 @@
 //! Register bits that ask for what is out of scope, and that change answers on processors which have it.
+use crate::trouble::say;
 use humpelkaas::Registers;
 
 /// Hardware update of table flags, and hierarchical permission disables.
@@ -19,9 +20,9 @@ pub fn bits(registers: &Registers) -> Vec<&'static str> {
 /// Says on the error stream which those are.
 pub fn warn(bits: &[&str]) {
     if !bits.is_empty() {
-        eprintln!(
-            "humpelkaas: warning: set and out of scope: {}: answers are those of Arm's first edition, which has none of these",
+        say(&format!(
+            "warning: set and out of scope: {}: answers are those of Arm's first edition, which has none of these",
             bits.join(", ")
-        );
+        ));
     }
 }
