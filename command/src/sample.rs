@@ -106,40 +106,36 @@ fn is_ours(folder: &Path) -> Result<(), Trouble> {
     Err(Trouble::Usage(format!("{} is not empty: name another folder", folder.display())))
 }
 
-/// What is run over the sample, in its folder DIR.
+/// What is run over the sample, in its folder.
 const RUNS: [&str; 6] = [
-    "ask 0x1008 --el 0 --capture DIR/capture.bin --base 0x40000000 --registers DIR/plate.registers",
-    "batch --el 0 --addresses DIR/plate.addresses --output DIR/plate.csv --capture DIR/capture.bin --base 0x40000000 --registers DIR/plate.registers",
-    "batch --el 0 --addresses DIR/spectra.addresses --output DIR/spectra.csv --capture DIR/capture.bin --base 0x40000000 --registers DIR/spectra.registers",
-    "audit --grants DIR/plate.grants --tables DIR/plate.tables --capture DIR/capture.bin --base 0x40000000 --registers DIR/plate.registers",
-    "audit --grants DIR/spectra.grants --tables DIR/spectra.tables --capture DIR/capture.bin --base 0x40000000 --registers DIR/spectra.registers",
-    "map --svg DIR/map.svg --capture DIR/capture.bin --base 0x40000000 --registers DIR/plate.registers --registers DIR/spectra.registers --grants DIR/plate.grants --grants DIR/spectra.grants",
+    "ask 0x1008 --el 0 --capture capture.bin --base 0x40000000 --registers plate.registers",
+    "batch --el 0 --addresses plate.addresses --output plate.csv --capture capture.bin --base 0x40000000 --registers plate.registers",
+    "batch --el 0 --addresses spectra.addresses --output spectra.csv --capture capture.bin --base 0x40000000 --registers spectra.registers",
+    "audit --grants plate.grants --tables plate.tables --capture capture.bin --base 0x40000000 --registers plate.registers",
+    "audit --grants spectra.grants --tables spectra.tables --capture capture.bin --base 0x40000000 --registers spectra.registers",
+    "map --svg map.svg --capture capture.bin --base 0x40000000 --registers plate.registers --grants plate.grants --registers spectra.registers --grants spectra.grants",
 ];
 
-fn run_one(line: &str, folder: &Path, out: &mut dyn Write) -> Result<Status, Trouble> {
-    let shown = line.replace("DIR", &folder.to_string_lossy());
-    writeln!(out, "\n$ humpelkaas {shown}").map_err(standard_output)?;
-    // By words and not by the line shown: a folder's name may have spaces.
-    let words = line.split(' ').map(|word| match word.strip_prefix("DIR/") {
-        Some(file) => folder.join(file).into_os_string(),
-        None => word.into(),
-    });
-    let arguments =
-        Arguments::try_parse_from(std::iter::once("humpelkaas".into()).chain(words)).map_err(|wrong| Trouble::Usage(wrong.to_string()))?;
+fn run_one(line: &str, out: &mut dyn Write) -> Result<Status, Trouble> {
+    writeln!(out, "\n$ humpelkaas {line}").map_err(standard_output)?;
+    let words = std::iter::once("humpelkaas").chain(line.split(' '));
+    let arguments = Arguments::try_parse_from(words).map_err(|wrong| Trouble::Usage(wrong.to_string()))?;
     crate::run(&arguments.verb, out)
 }
 
 pub fn run(arguments: &Sample, out: &mut dyn Write) -> Result<Status, Trouble> {
     let folder = &arguments.folder;
-    fs::create_dir_all(folder).map_err(|error| trouble::file("make the folder", folder, error))?;
+    let wrong = |error| trouble::file("make the folder", folder, error);
+    fs::create_dir_all(folder).map_err(wrong)?;
     is_ours(folder)?;
     for (name, bytes) in files() {
         write(&folder.join(name), &bytes)?;
     }
-    writeln!(out, "A sample capture of two guests is in {}.", folder.display()).map_err(standard_output)?;
+    writeln!(out, "A sample capture of two guests is in {}. In that folder:", folder.display()).map_err(standard_output)?;
+    std::env::set_current_dir(folder).map_err(wrong)?;
     let mut whole = Status::Complete;
     for line in RUNS {
-        whole = whole.max(run_one(line, folder, out)?);
+        whole = whole.max(run_one(line, out)?);
     }
     Ok(whole)
 }
