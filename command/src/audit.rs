@@ -2,13 +2,13 @@
 use crate::arguments::Audit;
 use crate::ask::hex;
 use crate::capture::CaptureFile;
+use crate::layout::{self, span, PAGE};
 use crate::lists;
 use crate::reach::{self, Entry, Found};
 use crate::refused;
 use crate::registers;
 use crate::results;
 use crate::scope;
-use crate::steps::span;
 use crate::trouble::{standard_output, Status, Trouble};
 use humpelkaas::{audit, AuditAnswer, Finding, Registers};
 use serde_json::{json, Value};
@@ -30,9 +30,6 @@ struct Through {
     table: bool,
 }
 
-const ADDRESS: u64 = (1 << 48) - 1;
-const PAGE: u64 = 4096;
-
 /// How an IPA goes through the entry at an address: its reads have that address or not.
 fn through(entry: &Entry, address: u64, value: u64, table: bool) -> Option<Through> {
     let at = entry.reads.iter().position(|read| *read == address)?;
@@ -40,7 +37,7 @@ fn through(entry: &Entry, address: u64, value: u64, table: bool) -> Option<Throu
     let absent = matches!(entry.found, Found::Absent { .. });
     let below = entry.reads.len() - 1 - at + usize::from(absent);
     let size = span(entry.level - below as u64);
-    let to = value & ADDRESS & !(if table { PAGE } else { size } - 1);
+    let to = layout::address(value, if table { PAGE } else { size });
     Some(Through { ipa: entry.ipa & !(size - 1), size, to, table })
 }
 

@@ -1,12 +1,10 @@
 //! What one guest can reach, gathered.
+use crate::layout::{span, PAGE};
 use crate::progress::Progress;
 use crate::ranges::{joined, Range};
 use crate::reach::{self, Entry, Found};
-use crate::steps::span;
 use humpelkaas::{Attributes, Capture, Refusal, Registers};
 use std::collections::BTreeSet;
-
-const PAGE: u64 = 4096;
 
 /// Input addresses in a row that have physical addresses in a row, with the same rights and attributes.
 #[derive(Clone, Copy)]

@@ -8,6 +8,7 @@ mod audit;
 mod batch;
 mod capture;
 mod guest;
+mod layout;
 mod lists;
 mod map;
 mod number;

@@ -2,11 +2,9 @@
 //!
 //! Stage 1 is turned off in the way in which it adds nothing (HCR_EL2.DC), so that an address asked is an IPA and an answer is what stage
 //! 2 says. The level of each answer says how far its entry reaches, and so where the next one begins.
-use crate::steps::span;
+use crate::layout::{span, DC, VM};
 use humpelkaas::{translate, Access, Answer, Attributes, Capture, Kind, Reads, Refusal, Registers, Stage};
 
-const STAGE2_ON: u64 = 1 << 0;
-const STAGE1_OFF: u64 = 1 << 12;
 /// TCR_EL1.TBI0 and TBI1: with them, the top byte of an address would not count.
 const NO_TAGS: u64 = !(0b11 << 37);
 
@@ -37,7 +35,7 @@ pub struct Entry {
 
 /// Stage 2 is on for the guest.
 pub fn confined(registers: &Registers) -> bool {
-    registers.el2.hcr_el2 & (STAGE2_ON | STAGE1_OFF) != 0
+    registers.el2.hcr_el2 & (VM | DC) != 0
 }
 
 /// A guest's entries in ascending order.
@@ -51,7 +49,7 @@ pub struct Entries<'a> {
 /// The entries of a guest with stage 2 on, or why its registers are refused.
 pub fn entries<'a>(capture: Capture<'a>, registers: &Registers) -> Result<Entries<'a>, Refusal> {
     let mut registers = *registers;
-    registers.el2.hcr_el2 |= STAGE1_OFF;
+    registers.el2.hcr_el2 |= DC;
     registers.el1.tcr_el1 &= NO_TAGS;
     let entries = Entries { capture, registers, next: Some(0) };
     match entries.ask(Kind::Read, 0).0 {

@@ -2,8 +2,11 @@
 use crate::trouble::say;
 use humpelkaas::Registers;
 
+/// A bit: its name, its place, and the register that has it.
+type Bit = (&'static str, u32, fn(&Registers) -> u64);
+
 /// Hardware update of table flags, and hierarchical permission disables.
-const BITS: [(&str, u32, fn(&Registers) -> u64); 6] = [
+const BITS: [Bit; 6] = [
     ("TCR_EL1.HA", 39, |r| r.el1.tcr_el1),
     ("TCR_EL1.HD", 40, |r| r.el1.tcr_el1),
     ("TCR_EL1.HPD0", 41, |r| r.el1.tcr_el1),
