@@ -124,7 +124,7 @@ fn guest_json(guest: &Guest) -> Value {
     })
 }
 
-fn all_json(guests: &[Guest], findings: &[Finding], out_of_scope: &[&str]) -> Value {
+fn all_json(guests: &[Guest], findings: &[Finding], out_of_scope: &[String]) -> Value {
     let finding =
         |finding: &Finding| json!({ "physical": [hex(finding.frames.start), hex(finding.frames.end - 1)], "words": finding.what });
     json!({
@@ -134,9 +134,13 @@ fn all_json(guests: &[Guest], findings: &[Finding], out_of_scope: &[&str]) -> Va
     })
 }
 
-/// A guest is called by its file of registers.
-fn name(path: &Path) -> String {
-    path.file_stem().unwrap_or(path.as_os_str()).to_string_lossy().into_owned()
+/// A guest is called by its file of registers, in short where that tells it from the others.
+fn name(path: &Path, all: &[PathBuf]) -> String {
+    let short = path.file_stem().unwrap_or(path.as_os_str());
+    match all.iter().filter(|other| other.file_stem() == Some(short)).count() {
+        1 => short.to_string_lossy().into_owned(),
+        _ => path.display().to_string(),
+    }
 }
 
 fn draw(target: &Path, guests: &[Guest], findings: &[Finding]) -> Result<(), Trouble> {
@@ -145,14 +149,12 @@ fn draw(target: &Path, guests: &[Guest], findings: &[Finding]) -> Result<(), Tro
     results.finish()
 }
 
-/// A guest, by its files. Its grants must be what an audit takes.
-fn guest(capture: Capture, name: String, registers: &Registers, grants: Option<Vec<Grant>>) -> Result<Guest, Refusal> {
-    if let Some(grants) = &grants {
-        if let AuditAnswer::Refused(refusal) = audit(capture, &registers.el2, grants, &[]) {
-            return Err(refusal);
-        }
+/// Why a guest's registers or grants are refused: for what an audit refuses them, in its order.
+fn refusal(capture: Capture, registers: &Registers, grants: Option<&[Grant]>) -> Option<Refusal> {
+    match audit(capture, &registers.el2, grants.unwrap_or(&[]), &[]) {
+        AuditAnswer::Refused(refusal) => Some(refusal),
+        _ => None,
     }
-    Guest::gather(name, capture, registers, grants.map(granted))
 }
 
 pub fn run(arguments: &Map, out: &mut dyn Write) -> Result<Status, Trouble> {
@@ -166,17 +168,16 @@ pub fn run(arguments: &Map, out: &mut dyn Write) -> Result<Status, Trouble> {
     let mut out_of_scope = Vec::new();
     for (index, path) in arguments.registers.iter().enumerate() {
         let registers = registers::read(path)?;
-        let bits = scope::bits(&registers);
+        let name = name(path, &arguments.registers);
+        let bits: Vec<String> = scope::bits(&registers).iter().map(|bit| format!("{name}: {bit}")).collect();
         scope::warn(&bits);
         out_of_scope.extend(bits);
         let grants = arguments.grants.get(index).map(|path| lists::grants(path)).transpose()?;
-        match guest(capture.capture(), name(path), &registers, grants) {
-            Ok(guest) => guests.push(guest),
-            Err(refusal) => {
-                say(&format!("{}: {}: {}", path.display(), refused::numbers(refusal), refused::explained(refusal)));
-                return Ok(Status::Refused);
-            }
+        if let Some(refusal) = refusal(capture.capture(), &registers, grants.as_deref()) {
+            say(&format!("{}: {}: {}", path.display(), refused::numbers(refusal), refused::explained(refusal)));
+            return Ok(Status::Refused);
         }
+        guests.push(Guest::gather(name, capture.capture(), &registers, grants.map(granted))?);
     }
     capture.unchanged()?;
     let findings = findings(&guests);

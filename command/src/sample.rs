@@ -3,6 +3,7 @@
 //! The first guest's tables are document 01's: a walk of three levels at each stage. The second has its own, with a page that it may only
 //! read and a block of 2 MiB.
 use crate::arguments::{Arguments, Sample};
+use crate::results::Results;
 use crate::trouble::{self, standard_output, Status, Trouble};
 use clap::Parser;
 use std::fs;
@@ -90,7 +91,9 @@ fn write(path: &Path, bytes: &[u8]) -> Result<(), Trouble> {
         Ok(there) if there == bytes => Ok(()),
         Ok(_) => Err(Trouble::Usage(format!("{} is there and is not the sample's: name another folder", path.display()))),
         Err(error) if error.kind() == io::ErrorKind::NotFound => {
-            fs::write(path, bytes).map_err(|error| trouble::file("write", path, error))
+            let mut results = Results::open(Some(path))?;
+            results.write(bytes)?;
+            results.finish()
         }
         Err(error) => Err(trouble::file("read", path, error)),
     }

@@ -1,6 +1,7 @@
 //! Register bits that ask for what is out of scope, and that change answers on processors which have it.
 use crate::trouble::say;
 use humpelkaas::Registers;
+use std::borrow::Borrow;
 
 /// A bit: its name, its place, and the register that has it.
 type Bit = (&'static str, u32, fn(&Registers) -> u64);
@@ -21,7 +22,7 @@ pub fn bits(registers: &Registers) -> Vec<&'static str> {
 }
 
 /// Says on the error stream which those are.
-pub fn warn(bits: &[&str]) {
+pub fn warn<T: Borrow<str>>(bits: &[T]) {
     if !bits.is_empty() {
         say(&format!(
             "warning: set and out of scope: {}: answers are those of Arm's first edition, which has none of these",

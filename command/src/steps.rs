@@ -3,7 +3,7 @@
 //! The log has addresses alone. Which stage and level each read belongs to follows from where walks start, which the library says of an
 //! empty capture ("not in the capture: stage, level"), and from which descriptors are tables. What the last one ends with is the answer.
 use crate::capture::CaptureFile;
-use crate::layout::{address, span, BLOCK, LAST_LEVEL, PAGE, TABLE, VM};
+use crate::layout::{address, is_leaf, is_table, span, PAGE, VM};
 use crate::probe::{self, Leaf};
 use humpelkaas::{translate, Access, Answer, Capture, Registers, Stage, Told};
 use std::fmt;
@@ -116,15 +116,12 @@ impl Next {
 
 /// What a descriptor says at a stage and level; `imposed` is what stage 1's tables above it say, or-ed.
 fn says(registers: &Registers, stage: Stage, level: u64, imposed: u64, value: u64) -> Says {
-    match value & 0b11 {
-        TABLE if level < LAST_LEVEL => Says::Table { address: address(value, PAGE) },
-        TABLE => leaf(registers, stage, level, imposed, value),
-        BLOCK if level == 1 || level == 2 => leaf(registers, stage, level, imposed, value),
-        _ => Says::Invalid,
+    if is_table(value, level) {
+        return Says::Table { address: address(value, PAGE) };
     }
-}
-
-fn leaf(registers: &Registers, stage: Stage, level: u64, imposed: u64, value: u64) -> Says {
+    if !is_leaf(value, level) {
+        return Says::Invalid;
+    }
     let leaf = match stage {
         Stage::One => probe::stage1(registers, imposed, value),
         Stage::Two { .. } => probe::stage2(registers, value),
