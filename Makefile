@@ -39,16 +39,9 @@ all: library command
 
 # ---- building
 
-# Always run: rt knows what is proved already. A library that did not change is left alone, so that nothing is linked
-# in vain.
+# Always run: rt knows what is proved already.
 library:
-	@command -v rt >/dev/null || \
-	  { echo "The Rattle kit's command 'rt' is not on the PATH: install the kit first." >&2; exit 2; }
-	@mkdir -p $(dir $(LIBRARY))
-	@echo "Proving and compiling the library: some five minutes from nothing, little if it is proved already."
-	@{ rt check exported && rt staticlib exported; } >target/library.log 2>&1 || \
-	  { cat target/library.log >&2; exit 1; }
-	@cmp -s target/staticlib/libexported.a $(LIBRARY) || $(INSTALL) -m 644 target/staticlib/libexported.a $(LIBRARY)
+	@tools/library
 
 # Always run too: cargo knows what is built already.
 command: library

@@ -46,14 +46,16 @@ impl Addresses {
     /// The next lines; none at the end.
     pub fn block(&mut self) -> Result<Option<Vec<u8>>, Trouble> {
         let mut block = std::mem::take(&mut self.rest);
-        while !self.ended && (block.len() < BLOCK || !block.contains(&b'\n')) {
+        while !self.ended && block.len() < BLOCK {
             let taken = self.reader.by_ref().take(BLOCK as u64).read_to_end(&mut block);
             let taken = taken.map_err(|error| trouble::file("read the addresses", &self.path, error))?;
             self.ended = taken == 0;
         }
         if !self.ended {
-            let end = block.iter().rposition(|byte| *byte == b'\n').map_or(block.len(), |last| last + 1);
-            self.rest = block.split_off(end);
+            let last = block.iter().rposition(|byte| *byte == b'\n').ok_or_else(|| {
+                Trouble::Io(format!("{}: a line is over {BLOCK} bytes: is this the file of addresses?", self.path.display()))
+            })?;
+            self.rest = block.split_off(last + 1);
         }
         Ok((!block.is_empty()).then_some(block))
     }

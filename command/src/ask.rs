@@ -3,6 +3,7 @@ use crate::arguments::Ask;
 use crate::capture::CaptureFile;
 use crate::refused;
 use crate::registers;
+use crate::results;
 use crate::scope;
 use crate::steps::{self, Says, Step};
 use crate::trouble::{standard_output, Status, Trouble};
@@ -150,6 +151,7 @@ fn steps_json(steps: &[Step], answer: &Answer) -> Vec<Value> {
 }
 
 pub fn run(ask: &Ask, out: &mut dyn Write) -> Result<Status, Trouble> {
+    results::not_an_input(None, &[&ask.memory.capture, &ask.guest.registers])?;
     let registers = registers::read(&ask.guest.registers)?;
     let beyond = scope::bits(&registers);
     scope::warn(&beyond);

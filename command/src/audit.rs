@@ -2,50 +2,64 @@
 use crate::arguments::Audit;
 use crate::ask::hex;
 use crate::capture::CaptureFile;
+use crate::layout::{address, is_leaf, is_table, span, PAGE};
 use crate::lists;
-use crate::reach::{self, Entry, Found};
+use crate::reach;
 use crate::refused;
 use crate::registers;
+use crate::results;
 use crate::scope;
-use crate::steps::span;
 use crate::trouble::{standard_output, Status, Trouble};
-use humpelkaas::{audit, AuditAnswer, Finding, Registers};
+use humpelkaas::{audit, AuditAnswer, Finding, Grant, Registers, Table};
 use serde_json::{json, Value};
 use std::io::Write;
+use std::path::PathBuf;
 
 /// What an entry of stage 2's tables maps.
 struct Maps {
     value: u64,
-    /// The IPAs that go through it, and the physical range or table that it gives them. None if no IPA does.
-    through: Option<Through>,
-}
-
-struct Through {
-    ipa: u64,
-    size: u64,
+    level: u64,
+    /// The first of the IPAs that go through it, if any do.
+    ipa: Option<u64>,
     /// The physical address that it leads to.
     to: u64,
     table: bool,
 }
 
-const ADDRESS: u64 = (1 << 48) - 1;
-const PAGE: u64 = 4096;
-
-/// How an IPA goes through the entry at an address: its reads have that address or not.
-fn through(entry: &Entry, address: u64, value: u64, table: bool) -> Option<Through> {
-    let at = entry.reads.iter().position(|read| *read == address)?;
-    // Each further read is one level lower down, and so is one that is not in the capture.
-    let absent = matches!(entry.found, Found::Absent { .. });
-    let below = entry.reads.len() - 1 - at + usize::from(absent);
-    let size = span(entry.level - below as u64);
-    let to = value & ADDRESS & !(if table { PAGE } else { size } - 1);
-    Some(Through { ipa: entry.ipa & !(size - 1), size, to, table })
+/// The lists of an audit.
+struct Lists {
+    grants: Vec<Grant>,
+    tables: Vec<Table>,
 }
 
-fn maps(capture: &CaptureFile, registers: &Registers, address: u64, table: bool) -> Option<Maps> {
-    let value = capture.descriptor(address)?;
-    let mut entries = reach::entries(capture.capture(), registers).ok()?;
-    Some(Maps { value, through: entries.find_map(|entry| through(&entry, address, value, table)) })
+impl Lists {
+    /// The entry is what a finding says, as one of a level.
+    fn is_found(&self, finding: Finding, value: u64, level: u64) -> bool {
+        match finding {
+            Finding::UnlistedTable => {
+                let next = Table { address: address(value, PAGE), level: level + 1 };
+                is_table(value, level) && !self.tables.contains(&next)
+            }
+            Finding::OutsideGrants => {
+                let (from, size) = (address(value, span(level)), span(level));
+                let holds = |grant: &Grant| grant.address <= from && from + size <= grant.address + grant.bytes;
+                is_leaf(value, level) && !self.grants.iter().any(holds)
+            }
+            Finding::NotCaptured | Finding::TouchesGrant => false,
+        }
+    }
+
+    /// What the entry of a finding maps. A table may be audited at several levels, in their order after the root's.
+    fn maps(&self, capture: &CaptureFile, registers: &Registers, finding: Finding, entry: u64) -> Option<Maps> {
+        let value = capture.descriptor(entry)?;
+        let tree = reach::Tables::of(capture.capture(), registers);
+        let root = tree.root.contains(&entry).then_some(tree.start);
+        let listed = self.tables.iter().filter(|table| table.address == entry & !(PAGE - 1)).map(|table| table.level);
+        let level = root.into_iter().chain(listed).find(|level| self.is_found(finding, value, *level))?;
+        let table = is_table(value, level);
+        let to = address(value, if table { PAGE } else { span(level) });
+        Some(Maps { value, level, ipa: tree.lowest_ipa(entry, level), to, table })
+    }
 }
 
 /// The first line: what scripts go by.
@@ -59,28 +73,25 @@ fn first(answer: &AuditAnswer) -> String {
 
 impl Maps {
     fn words(&self) -> String {
-        let said = match &self.through {
-            Some(Through { ipa, size, to, table: true }) => {
-                format!("it leads IPAs {ipa:#x} to {:#x} to the table at {to:#x}", ipa + (size - 1))
-            }
-            Some(Through { ipa, size, to, table: false }) => {
-                format!("it maps IPAs {ipa:#x} to {:#x} to physical {to:#x} to {:#x}", ipa + (size - 1), to + (size - 1))
-            }
-            None => "no IPA goes through it".to_string(),
+        let (value, level, to, last) = (self.value, self.level, self.to, span(self.level) - 1);
+        let leads =
+            if self.table { format!("leads to the table at {to:#x}") } else { format!("maps physical {to:#x} to {:#x}", to + last) };
+        let whose = match self.ipa {
+            Some(ipa) => format!("for IPAs {ipa:#x} to {:#x}", ipa + last),
+            None => "and no IPA goes through it".to_string(),
         };
-        format!("the entry's value is {:#x}: {said}", self.value)
+        format!("the entry's value is {value:#x}: at level {level} it {leads}, {whose}")
     }
 
     fn json(&self) -> Value {
-        let through = self.through.as_ref().map(|through| {
-            json!({
-                "ipa": hex(through.ipa),
-                "size": hex(through.size),
-                "to": hex(through.to),
-                "table": through.table,
-            })
-        });
-        json!({ "value": hex(self.value), "through": through })
+        json!({
+            "value": hex(self.value),
+            "level": self.level,
+            "table": self.table,
+            "to": hex(self.to),
+            "size": hex(span(self.level)),
+            "ipa": self.ipa.map(hex),
+        })
     }
 }
 
@@ -94,11 +105,12 @@ fn advice(finding: Finding) -> &'static str {
     }
 }
 
-fn text(answer: &AuditAnswer, maps: Option<&Maps>, counts: (usize, usize)) -> String {
+fn text(answer: &AuditAnswer, maps: Option<&Maps>, lists: &Lists) -> String {
     let explained = match answer {
         AuditAnswer::Clean => format!(
             "every access of the guest through the root and {} listed tables stays in its {} grants, whatever it does",
-            counts.1, counts.0
+            lists.tables.len(),
+            lists.grants.len()
         ),
         AuditAnswer::Found { finding, .. } => {
             let maps = maps.map_or(String::new(), |maps| format!("\n{}", maps.words()));
@@ -110,10 +122,10 @@ fn text(answer: &AuditAnswer, maps: Option<&Maps>, counts: (usize, usize)) -> St
 }
 
 fn answer_json(answer: &AuditAnswer, maps: Option<&Maps>, out_of_scope: &[&str]) -> Value {
-    let (number, item, address) = match answer {
-        AuditAnswer::Clean => (0, None, None),
-        AuditAnswer::Found { finding, address } => (finding.number(), None, Some(hex(*address))),
-        AuditAnswer::Refused(refusal) => (refusal.number(), refusal.item(), None),
+    let (number, item, address, what_to_do) = match answer {
+        AuditAnswer::Clean => (0, None, None, None),
+        AuditAnswer::Found { finding, address } => (finding.number(), None, Some(hex(*address)), Some(advice(*finding))),
+        AuditAnswer::Refused(refusal) => (refusal.number(), refusal.item(), None, Some(refused::advice(*refusal))),
     };
     json!({
         "answer": first(answer),
@@ -121,28 +133,30 @@ fn answer_json(answer: &AuditAnswer, maps: Option<&Maps>, out_of_scope: &[&str])
         "item": item,
         "address": address,
         "words": answer.to_string(),
+        "what_to_do": what_to_do,
         "entry": maps.map(Maps::json),
         "out_of_scope": out_of_scope,
     })
 }
 
 pub fn run(arguments: &Audit, out: &mut dyn Write) -> Result<Status, Trouble> {
+    let inputs = [&arguments.memory.capture, &arguments.guest.registers, &arguments.grants, &arguments.tables];
+    results::not_an_input(None, &inputs.map(PathBuf::as_path))?;
     let registers = registers::read(&arguments.guest.registers)?;
     let out_of_scope = scope::bits(&registers);
     scope::warn(&out_of_scope);
-    let (grants, tables) = (lists::grants(&arguments.grants)?, lists::tables(&arguments.tables)?);
+    let lists = Lists { grants: lists::grants(&arguments.grants)?, tables: lists::tables(&arguments.tables)? };
     let capture = CaptureFile::read(&arguments.memory.capture, arguments.memory.base)?;
-    let answer = audit(capture.capture(), &registers.el2, &grants, &tables);
+    let answer = audit(capture.capture(), &registers.el2, &lists.grants, &lists.tables);
     let maps = match answer {
-        AuditAnswer::Found { finding: Finding::UnlistedTable, address } => maps(&capture, &registers, address, true),
-        AuditAnswer::Found { finding: Finding::OutsideGrants, address } => maps(&capture, &registers, address, false),
+        AuditAnswer::Found { finding, address } => lists.maps(&capture, &registers, finding, address),
         _ => None,
     };
     capture.unchanged()?;
     let printed = if arguments.json {
         format!("{:#}\n", answer_json(&answer, maps.as_ref(), &out_of_scope))
     } else {
-        text(&answer, maps.as_ref(), (grants.len(), tables.len()))
+        text(&answer, maps.as_ref(), &lists)
     };
     out.write_all(printed.as_bytes()).and_then(|()| out.flush()).map_err(standard_output)?;
     Ok(match answer {

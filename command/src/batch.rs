@@ -5,13 +5,14 @@ use crate::capture::CaptureFile;
 use crate::progress::Progress;
 use crate::refused;
 use crate::registers;
-use crate::results::{self, Results};
+use crate::results::{self, Results, STANDARD_INPUT};
 use crate::scope;
-use crate::trouble::{standard_output, Status, Trouble};
+use crate::trouble::{say, standard_output, Status, Trouble};
 use humpelkaas::{batch, Access, Capture, Entries, Ledger, Refusal, Registers, BATCH};
 use rayon::prelude::*;
 use serde::Serialize;
 use std::io::Write;
+use std::path::Path;
 
 /// How many blocks each core has at a time: enough that none waits long for the others.
 const BLOCKS: usize = 4;
@@ -127,10 +128,11 @@ fn answer_all(question: &Question, addresses: &mut Addresses, results: &mut Resu
 }
 
 pub fn run(arguments: &Batch, out: &mut dyn Write) -> Result<Status, Trouble> {
-    let inputs = [arguments.memory.capture.as_path(), &arguments.guest.registers, &arguments.addresses];
-    if let Some(target) = &arguments.output {
-        results::not_an_input(target, &inputs)?;
-    }
+    let addresses = match &arguments.addresses {
+        dash if dash == Path::new("-") => Path::new(STANDARD_INPUT),
+        file => file,
+    };
+    results::not_an_input(arguments.output.as_deref(), &[&arguments.memory.capture, &arguments.guest.registers, addresses])?;
     let registers = registers::read(&arguments.guest.registers)?;
     let out_of_scope = scope::bits(&registers);
     scope::warn(&out_of_scope);
@@ -145,7 +147,7 @@ pub fn run(arguments: &Batch, out: &mut dyn Write) -> Result<Status, Trouble> {
     };
     // A refusal does not depend on the addresses: it is known before anything is written.
     if let Err(refusal) = question.answer(&[], &mut Entries::default()) {
-        eprintln!("humpelkaas: {}: {}", refused::numbers(refusal), refused::explained(refusal));
+        say(&format!("{}: {}", refused::numbers(refusal), refused::explained(refusal)));
         return Ok(Status::Refused);
     }
     let mut results = Results::open(arguments.output.as_deref())?;

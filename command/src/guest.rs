@@ -1,12 +1,14 @@
 //! What one guest can reach, gathered.
+use crate::layout::{span, PAGE};
 use crate::progress::Progress;
 use crate::ranges::{joined, Range};
 use crate::reach::{self, Entry, Found};
-use crate::steps::span;
-use humpelkaas::{Attributes, Capture, Refusal, Registers};
+use crate::trouble::Trouble;
+use humpelkaas::{Attributes, Capture, Registers};
 use std::collections::BTreeSet;
 
-const PAGE: u64 = 4096;
+/// How many ranges are kept. Tables that lead to themselves make more than any memory has room for.
+const MOST: usize = 1_000_000;
 
 /// Input addresses in a row that have physical addresses in a row, with the same rights and attributes.
 #[derive(Clone, Copy)]
@@ -62,24 +64,29 @@ impl Guest {
         }
     }
 
-    /// Goes through all that stage 2 gives a guest. Without a usable root there is nothing to go through, as for an audit.
-    pub fn gather(name: String, capture: Capture, registers: &Registers, grants: Option<Vec<Range>>) -> Result<Guest, Refusal> {
-        if !reach::confined(registers) {
-            return Err(Refusal::NoRoot);
-        }
+    /// All that it can reach is known.
+    pub fn is_whole(&self) -> bool {
+        self.absent.is_empty() && self.unsettled.is_empty()
+    }
+
+    /// Goes through all that stage 2 gives a guest.
+    pub fn gather(name: String, capture: Capture, registers: &Registers, grants: Option<Vec<Range>>) -> Result<Guest, Trouble> {
         let (frames, tables) = (Vec::new(), Vec::new());
         let mut guest = Guest { name, mapped: Vec::new(), frames, tables, grants, absent: Vec::new(), unsettled: Vec::new() };
         let mut pages = BTreeSet::new();
-        let mut last = None;
         let progress = Progress::without_end();
-        for entry in reach::entries(capture, registers)? {
+        for entry in reach::entries(capture, registers) {
             pages.extend(entry.reads.iter().map(|read| read & !(PAGE - 1)));
             guest.add(&entry);
             progress.reach(entry.ipa);
-            last = Some(entry.ipa);
+            if guest.mapped.len() + guest.absent.len() + guest.unsettled.len() > MOST {
+                return Err(Trouble::Io(format!(
+                    "{} has over {MOST} ranges of IPAs: its tables lead to themselves, or are shared",
+                    guest.name
+                )));
+            }
         }
         progress.end();
-        last.ok_or(Refusal::NoRoot)?;
         guest.frames = joined(guest.mapped.iter().map(|mapped| mapped.frames).collect());
         guest.tables = joined(pages.into_iter().map(|page| Range::new(page, PAGE)).collect());
         Ok(guest)

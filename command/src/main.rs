@@ -8,6 +8,7 @@ mod audit;
 mod batch;
 mod capture;
 mod guest;
+mod layout;
 mod lists;
 mod map;
 mod number;
@@ -63,10 +64,11 @@ fn main() -> ExitCode {
             };
         }
     };
-    match run(&arguments.verb, &mut std::io::stdout()) {
+    let ended = results::standard_output_is_open().and_then(|()| run(&arguments.verb, &mut std::io::stdout()));
+    match ended {
         Ok(status) => ExitCode::from(status as u8),
         Err(trouble) => {
-            eprintln!("humpelkaas: {trouble}");
+            trouble::say(&trouble.to_string());
             ExitCode::from(trouble.status())
         }
     }

@@ -11,17 +11,23 @@ use crate::refused;
 use crate::registers;
 use crate::results::{self, Results};
 use crate::scope;
-use crate::trouble::{standard_output, Status, Trouble};
-use humpelkaas::Grant;
+use crate::trouble::{say, standard_output, Status, Trouble};
+use humpelkaas::{audit, AuditAnswer, Capture, Grant, Refusal, Registers};
 use serde_json::{json, Value};
-use std::fmt::Write as _;
+use std::fmt::{self, Write as _};
 use std::io::Write;
-use std::path::Path;
+use std::path::{Path, PathBuf};
 
 /// Something that should not be.
 pub struct Finding {
     pub frames: Range,
     pub what: String,
+}
+
+impl fmt::Display for Finding {
+    fn fmt(&self, f: &mut fmt::Formatter) -> fmt::Result {
+        write!(f, "{}: {}", self.frames, self.what)
+    }
 }
 
 /// A number of bytes as people say it.
@@ -89,9 +95,9 @@ fn guest_text(guest: &Guest) -> String {
 fn text(guests: &[Guest], findings: &[Finding]) -> String {
     let mut text: String = guests.iter().map(guest_text).collect();
     for finding in findings {
-        let _ = writeln!(text, "! {}: {}", finding.frames, finding.what);
+        let _ = writeln!(text, "! {finding}");
     }
-    if guests.len() > 1 && findings.is_empty() {
+    if guests.len() > 1 && findings.is_empty() && guests.iter().all(Guest::is_whole) {
         text += "no two guests reach the same memory, and none reaches stage 2's tables\n";
     }
     text
@@ -118,7 +124,7 @@ fn guest_json(guest: &Guest) -> Value {
     })
 }
 
-fn all_json(guests: &[Guest], findings: &[Finding], out_of_scope: &[&str]) -> Value {
+fn all_json(guests: &[Guest], findings: &[Finding], out_of_scope: &[String]) -> Value {
     let finding =
         |finding: &Finding| json!({ "physical": [hex(finding.frames.start), hex(finding.frames.end - 1)], "words": finding.what });
     json!({
@@ -128,48 +134,58 @@ fn all_json(guests: &[Guest], findings: &[Finding], out_of_scope: &[&str]) -> Va
     })
 }
 
-/// A guest is called by its file of registers.
-fn name(path: &Path) -> String {
-    path.file_stem().unwrap_or(path.as_os_str()).to_string_lossy().into_owned()
+/// A guest is called by its file of registers, in short where that tells it from the others.
+fn name(path: &Path, all: &[PathBuf]) -> String {
+    let short = path.file_stem().unwrap_or(path.as_os_str());
+    match all.iter().filter(|other| other.file_stem() == Some(short)).count() {
+        1 => short.to_string_lossy().into_owned(),
+        _ => path.display().to_string(),
+    }
 }
 
-fn draw(target: &Path, inputs: &[&Path], guests: &[Guest], findings: &[Finding]) -> Result<(), Trouble> {
-    results::not_an_input(target, inputs)?;
+fn draw(target: &Path, guests: &[Guest], findings: &[Finding]) -> Result<(), Trouble> {
     let mut results = Results::open(Some(target))?;
     results.write(picture::svg(guests, findings).as_bytes())?;
     results.finish()
+}
+
+/// Why a guest's registers or grants are refused: for what an audit refuses them, in its order.
+fn refusal(capture: Capture, registers: &Registers, grants: Option<&[Grant]>) -> Option<Refusal> {
+    match audit(capture, &registers.el2, grants.unwrap_or(&[]), &[]) {
+        AuditAnswer::Refused(refusal) => Some(refusal),
+        _ => None,
+    }
 }
 
 pub fn run(arguments: &Map, out: &mut dyn Write) -> Result<Status, Trouble> {
     if !arguments.grants.is_empty() && arguments.grants.len() != arguments.registers.len() {
         return Err(Trouble::Usage("give --grants once for each --registers, in the same order".to_string()));
     }
+    let inputs = [&arguments.memory.capture].into_iter().chain(&arguments.registers).chain(&arguments.grants);
+    results::not_an_input(arguments.svg.as_deref(), &inputs.map(PathBuf::as_path).collect::<Vec<_>>())?;
     let capture = CaptureFile::read(&arguments.memory.capture, arguments.memory.base)?;
     let mut guests = Vec::new();
     let mut out_of_scope = Vec::new();
     for (index, path) in arguments.registers.iter().enumerate() {
         let registers = registers::read(path)?;
-        let bits = scope::bits(&registers);
+        let name = name(path, &arguments.registers);
+        let bits: Vec<String> = scope::bits(&registers).iter().map(|bit| format!("{name}: {bit}")).collect();
         scope::warn(&bits);
         out_of_scope.extend(bits);
-        let grants = arguments.grants.get(index).map(|path| lists::grants(path)).transpose()?.map(granted);
-        match Guest::gather(name(path), capture.capture(), &registers, grants) {
-            Ok(guest) => guests.push(guest),
-            Err(refusal) => {
-                eprintln!("humpelkaas: {}: {}: {}", path.display(), refused::numbers(refusal), refused::explained(refusal));
-                return Ok(Status::Refused);
-            }
+        let grants = arguments.grants.get(index).map(|path| lists::grants(path)).transpose()?;
+        if let Some(refusal) = refusal(capture.capture(), &registers, grants.as_deref()) {
+            say(&format!("{}: {}: {}", path.display(), refused::numbers(refusal), refused::explained(refusal)));
+            return Ok(Status::Refused);
         }
+        guests.push(Guest::gather(name, capture.capture(), &registers, grants.map(granted))?);
     }
     capture.unchanged()?;
     let findings = findings(&guests);
     if let Some(target) = &arguments.svg {
-        let inputs: Vec<&Path> =
-            [&arguments.memory.capture].into_iter().chain(&arguments.registers).chain(&arguments.grants).map(|p| p.as_path()).collect();
-        draw(target, &inputs, &guests, &findings)?;
+        draw(target, &guests, &findings)?;
     }
     let printed = if arguments.json { format!("{:#}\n", all_json(&guests, &findings, &out_of_scope)) } else { text(&guests, &findings) };
     out.write_all(printed.as_bytes()).and_then(|()| out.flush()).map_err(standard_output)?;
-    let missing = guests.iter().any(|guest| !guest.absent.is_empty() || !guest.unsettled.is_empty());
-    Ok(if missing || !findings.is_empty() { Status::Incomplete } else { Status::Complete })
+    let whole = guests.iter().all(Guest::is_whole);
+    Ok(if whole && findings.is_empty() { Status::Complete } else { Status::Incomplete })
 }

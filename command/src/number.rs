@@ -1,20 +1,31 @@
 //! Numbers as people write them.
 
+/// A word as errors show it: a binary file may be one long word.
+fn shown(text: &str) -> String {
+    const MOST: usize = 40;
+    let printable = |c: char| if c.is_control() { '?' } else { c };
+    match text.char_indices().nth(MOST) {
+        Some((end, _)) => format!("'{}..'", text[..end].chars().map(printable).collect::<String>()),
+        None => format!("'{}'", text.chars().map(printable).collect::<String>()),
+    }
+}
+
 /// A 64-bit number, decimal or hexadecimal with 0x. Digits may be grouped by `_`.
 pub fn parse(text: &str) -> Result<u64, String> {
     let (digits, radix) = match text.strip_prefix("0x").or_else(|| text.strip_prefix("0X")) {
         Some(digits) => (digits, 16),
         None => (text, 10),
     };
+    let shown = shown(text);
     let digits: String = digits.chars().filter(|c| *c != '_').collect();
     if digits.is_empty() || !digits.chars().all(|c| c.is_digit(radix)) {
-        return Err(format!("'{text}' is not a number: write it in decimal, or in hexadecimal after 0x"));
+        return Err(format!("{shown} is not a number: write it in decimal, or in hexadecimal after 0x"));
     }
     // Monitors print hexadecimal digits without 0x; taken as decimal they would be another number.
     if radix == 10 && digits.len() > 1 && digits.starts_with('0') {
-        return Err(format!("'{text}' begins with 0: write 0x before it if it is hexadecimal, else leave out the zeros"));
+        return Err(format!("{shown} begins with 0: write 0x before it if it is hexadecimal, else leave out the zeros"));
     }
-    u64::from_str_radix(&digits, radix).map_err(|_| format!("'{text}' is over 64 bits"))
+    u64::from_str_radix(&digits, radix).map_err(|_| format!("{shown} is over 64 bits"))
 }
 
 #[cfg(test)]

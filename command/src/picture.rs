@@ -16,6 +16,9 @@ const DOUBLING: f64 = 3.0;
 const MANY: usize = 300;
 const THIN: f64 = 3.0;
 const LABEL: f64 = 11.0;
+const LINE: f64 = 15.0;
+/// The width of a letter, about.
+const LETTER: f64 = 7.5;
 
 const FRAMES: [&str; 4] = ["#2b7bba", "#2f9e6e", "#8a63b8", "#b8860b"];
 const TABLES: &str = "#555555";
@@ -73,6 +76,8 @@ fn escaped(text: &str) -> String {
 struct Picture {
     svg: String,
     scale: Scale,
+    /// How far down anything is drawn.
+    bottom: f64,
 }
 
 impl Picture {
@@ -93,7 +98,8 @@ impl Picture {
     /// The address of each bound that has room for it.
     fn addresses(&mut self) {
         let mut free = f64::MIN;
-        let bounds: Vec<(u64, f64)> = self.scale.parts.iter().map(|(part, top, _)| (part.start, *top)).collect();
+        let last = self.scale.parts.last().map(|(part, _, bottom)| (part.end, *bottom));
+        let bounds: Vec<(u64, f64)> = self.scale.parts.iter().map(|(part, top, _)| (part.start, *top)).chain(last).collect();
         for (address, y) in bounds {
             if y >= free {
                 self.text(LEFT - 12.0, y + 4.0, r#"text-anchor="end""#, &format!("{address:#x}"));
@@ -133,18 +139,41 @@ impl Picture {
         }
     }
 
-    fn finding(&mut self, finding: &Finding, width: f64) {
-        let title = format!("{}: {}", finding.frames, finding.what);
-        self.rectangle(
-            LEFT - 6.0,
-            width,
-            finding.frames,
-            &format!(r#"fill="{WRONG}" fill-opacity="0.35" stroke="{WRONG}" stroke-width="2""#),
-            &title,
-        );
-        let (top, bottom) = self.scale.extent(finding.frames);
-        self.text(LEFT + width + 2.0, (top + bottom) / 2.0 + 4.0, &format!(r#"fill="{WRONG}" font-weight="bold""#), &title);
+    /// Findings lie behind the guests, so that what is shared is seen, and are framed over them.
+    fn behind(&mut self, finding: &Finding, width: f64) {
+        self.rectangle(LEFT - 6.0, width, finding.frames, &format!(r#"fill="{WRONG}" fill-opacity="0.2""#), &finding.to_string());
     }
+
+    fn framed(&mut self, finding: &Finding, width: f64) {
+        let style = format!(r#"fill="none" stroke="{WRONG}" stroke-width="2" pointer-events="none""#);
+        self.rectangle(LEFT - 6.0, width, finding.frames, &style, &finding.to_string());
+    }
+
+    /// What is found, beside it, one below the other.
+    fn labels(&mut self, findings: &[Finding], x: f64) {
+        let middle = |(top, bottom): (f64, f64)| (top + bottom) / 2.0 + 4.0;
+        let mut labels: Vec<(f64, String)> =
+            findings.iter().map(|finding| (middle(self.scale.extent(finding.frames)), finding.to_string())).collect();
+        labels.sort_by(|a, b| a.0.total_cmp(&b.0));
+        let mut free = f64::MIN;
+        for (y, label) in labels {
+            let y = y.max(free);
+            self.text(x, y, &format!(r#"fill="{WRONG}" font-weight="bold""#), &label);
+            free = y + LINE;
+            self.bottom = self.bottom.max(y);
+        }
+    }
+}
+
+/// What is not drawn because nobody knows it.
+fn missing(guests: &[Guest]) -> Vec<String> {
+    let mut missing = Vec::new();
+    for guest in guests {
+        let absent = guest.absent.iter().map(|(ipas, _)| (ipas, "is not in the capture"));
+        let unsettled = guest.unsettled.iter().map(|ipas| (ipas, "is unsettled by Arm"));
+        missing.extend(absent.chain(unsettled).map(|(ipas, why)| format!("Not drawn: IPAs {ipas} of {}, what they map {why}", guest.name)));
+    }
+    missing
 }
 
 /// The bounds of findings are drawn too.
@@ -155,30 +184,41 @@ fn scale(guests: &[Guest], findings: &[Finding]) -> Scale {
 }
 
 pub fn svg(guests: &[Guest], findings: &[Finding]) -> String {
-    let mut picture = Picture { svg: String::new(), scale: scale(guests, findings) };
+    let scale = scale(guests, findings);
+    let mut picture = Picture { svg: String::new(), bottom: scale.bottom(), scale };
     let columns = COLUMN * guests.len() as f64;
-    let longest = findings.iter().map(|finding| finding.what.len() + finding.frames.to_string().len()).max().unwrap_or(0);
-    let width = LEFT + columns + 30.0 + 7.0 * longest as f64;
-    let height = picture.scale.bottom() + 60.0;
-    let _ = writeln!(
-        picture.svg,
-        r#"<svg xmlns="http://www.w3.org/2000/svg" width="{width:.0}" height="{height:.0}" viewBox="0 0 {width:.0} {height:.0}" font-family="sans-serif" font-size="12">"#
-    );
-    let _ = writeln!(picture.svg, r#"<rect width="100%" height="100%" fill="white"/>"#);
     picture.text(16.0, 26.0, r#"font-size="16" font-weight="bold""#, "Physical memory, as stage 2 gives it to guests");
     picture.addresses();
+    for finding in findings {
+        picture.behind(finding, columns);
+    }
     for (index, guest) in guests.iter().enumerate() {
         picture.guest(index, guest);
     }
     for finding in findings {
-        picture.finding(finding, columns);
+        picture.framed(finding, columns);
     }
-    let said = match findings.len() {
-        0 => "Heights are not to scale. Nothing that stands out.".to_string(),
-        count => format!("Heights are not to scale. Red: {count} that should not be."),
+    picture.labels(findings, LEFT + columns + 2.0);
+    let missing = missing(guests);
+    let mut bottom = picture.bottom + 20.0;
+    for what in &missing {
+        bottom += LINE;
+        picture.text(16.0, bottom, &format!(r#"fill="{WRONG}" font-weight="bold""#), what);
+    }
+    bottom += LINE;
+    let said = match (findings.len(), missing.len()) {
+        (0, 0) => "Heights are not to scale. Nothing stands out.".to_string(),
+        (count, _) => format!("Heights are not to scale. {count} findings in red."),
     };
-    let bottom = picture.scale.bottom() + 36.0;
     picture.text(16.0, bottom, r##"fill="#555""##, &said);
-    picture.svg += "</svg>\n";
-    picture.svg
+    let longest = |lengths: &mut dyn Iterator<Item = usize>| LETTER * lengths.max().unwrap_or(0) as f64;
+    let beside = LEFT + columns + 30.0 + longest(&mut findings.iter().map(|finding| finding.to_string().len()));
+    let (width, height) = (beside.max(32.0 + longest(&mut missing.iter().map(String::len))), bottom + 24.0);
+    format!(
+        r#"<svg xmlns="http://www.w3.org/2000/svg" width="{width:.0}" height="{height:.0}" viewBox="0 0 {width:.0} {height:.0}" font-family="sans-serif" font-size="12">
+<rect width="100%" height="100%" fill="white"/>
+{}</svg>
+"#,
+        picture.svg
+    )
 }

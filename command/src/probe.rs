@@ -2,6 +2,7 @@
 //!
 //! The leaf is put into two small tables of our making: a root of level 1 whose first entry leads to a table of level 2, and in that
 //! the leaf as a block at address 0. The library is then asked for each kind of access to address 0.
+use crate::layout::{BLOCK, DC, PAGE, TABLE, VM};
 use humpelkaas::{translate, Access, Answer, Attributes, Capture, El1, El2, Kind, Registers};
 use std::fmt;
 
@@ -9,12 +10,7 @@ use std::fmt;
 const INPUT: u64 = 64 - 32;
 const START_AT_LEVEL_1: u64 = 1 << 6;
 const TTBR1_DISABLED: u64 = 1 << 23;
-const STAGE2_ON: u64 = 1 << 0;
-const STAGE1_OFF: u64 = 1 << 12;
 
-const PAGE: usize = 4096;
-const BLOCK: u64 = 0b01;
-const TABLE: u64 = 0b11;
 const ACCESS_FLAG: u64 = 1 << 10;
 /// Attributes, permissions and shareability: bits 9 to 2, and the execute-never bits 54 and 53.
 const SAID: u64 = 0x3fc | 0b11 << 53;
@@ -64,9 +60,10 @@ impl fmt::Display for Leaf {
 
 /// The two tables, with what tables impose and the leaf.
 fn tables(imposed: u64, leaf: u64) -> Vec<u8> {
-    let mut bytes = vec![0; 2 * PAGE];
-    bytes[..8].copy_from_slice(&(imposed & IMPOSED | PAGE as u64 | TABLE).to_le_bytes());
-    bytes[PAGE..PAGE + 8].copy_from_slice(&(leaf & SAID | ACCESS_FLAG | BLOCK).to_le_bytes());
+    let second = PAGE as usize;
+    let mut bytes = vec![0; 2 * second];
+    bytes[..8].copy_from_slice(&(imposed & IMPOSED | PAGE | TABLE).to_le_bytes());
+    bytes[second..second + 8].copy_from_slice(&(leaf & SAID | ACCESS_FLAG | BLOCK).to_le_bytes());
     bytes
 }
 
@@ -89,16 +86,16 @@ fn attributes(registers: &Registers, bytes: &[u8]) -> Option<Attributes> {
 
 /// A leaf of stage 1, with the table entries above it or-ed. Stage 2 is off.
 pub fn stage1(registers: &Registers, imposed: u64, leaf: u64) -> Leaf {
-    let el2 = El2 { hcr_el2: registers.el2.hcr_el2 & !STAGE2_ON, ..registers.el2 };
+    let el2 = El2 { hcr_el2: registers.el2.hcr_el2 & !VM, ..registers.el2 };
     let el1 = El1 { tcr_el1: INPUT | TTBR1_DISABLED, ttbr0_el1: 0, ..registers.el1 };
     let registers = Registers { el2, el1 };
     let bytes = tables(imposed, leaf);
     Leaf { rights: rights(&registers, &bytes), attributes: attributes(&registers, &bytes) }
 }
 
-/// A leaf of stage 2. Stage 1 is off in the way in which it adds nothing to what stage 2 says.
+/// A leaf of stage 2, with stage 1 off.
 pub fn stage2(registers: &Registers, leaf: u64) -> Leaf {
-    let hcr_el2 = registers.el2.hcr_el2 | STAGE1_OFF;
+    let hcr_el2 = registers.el2.hcr_el2 | DC;
     let el2 = El2 { hcr_el2, vtcr_el2: INPUT | START_AT_LEVEL_1, vttbr_el2: 0, ..registers.el2 };
     let registers = Registers { el2, ..*registers };
     let rights = rights(&registers, &tables(0, leaf));

@@ -2,14 +2,14 @@
 //!
 //! Stage 1 is turned off in the way in which it adds nothing (HCR_EL2.DC), so that an address asked is an IPA and an answer is what stage
 //! 2 says. The level of each answer says how far its entry reaches, and so where the next one begins.
-use crate::steps::span;
-use humpelkaas::{translate, Access, Answer, Attributes, Capture, Kind, Reads, Refusal, Registers, Stage};
+use crate::layout::{span, DC, ENTRIES};
+use humpelkaas::{translate, Access, Answer, Attributes, Capture, Kind, Reads, Registers, Stage};
+use std::collections::HashSet;
 
-const STAGE2_ON: u64 = 1 << 0;
-const STAGE1_OFF: u64 = 1 << 12;
 /// TCR_EL1.TBI0 and TBI1: with them, the top byte of an address would not count.
 const NO_TAGS: u64 = !(0b11 << 37);
 
+const READ: Access = Access { kind: Kind::Read, el: 1, size: 1 };
 const KINDS: [Kind; 3] = [Kind::Read, Kind::Write, Kind::Fetch];
 
 /// What a guest finds at some IPAs.
@@ -35,9 +35,89 @@ pub struct Entry {
     pub reads: Reads,
 }
 
-/// Stage 2 is on for the guest.
-pub fn confined(registers: &Registers) -> bool {
-    registers.el2.hcr_el2 & (STAGE2_ON | STAGE1_OFF) != 0
+/// Registers with which an address asked is an IPA.
+fn stage2_alone(registers: &Registers) -> Registers {
+    let mut alone = *registers;
+    alone.el2.hcr_el2 |= DC;
+    alone.el1.tcr_el1 &= NO_TAGS;
+    alone
+}
+
+/// What is read to find where an IPA leads: the descriptors read, and the one that is not in the capture.
+pub struct Path {
+    pub read: Reads,
+    pub absent: Option<u64>,
+}
+
+/// Stage 2's tables, from their root.
+pub struct Tables<'a> {
+    capture: Capture<'a>,
+    registers: Registers,
+    /// The level of the root, and the address of each of its entries.
+    pub start: u64,
+    pub root: Vec<u64>,
+}
+
+fn read_at(capture: Capture, registers: &Registers, ipa: u64) -> (Answer, Reads) {
+    let told = translate(capture, registers, READ, ipa);
+    (told.answer, told.reads)
+}
+
+impl<'a> Tables<'a> {
+    /// The tables of a guest with stage 2 on. Of an empty capture the library says which entry of the root an IPA needs.
+    pub fn of(capture: Capture<'a>, registers: &Registers) -> Tables<'a> {
+        let registers = stage2_alone(registers);
+        let mut tables = Tables { capture, registers, start: 0, root: Vec::new() };
+        let empty = Capture { base: 0, bytes: &[] };
+        let mut ipa = 0;
+        while let Answer::Absent { address, level, .. } = read_at(empty, &registers, ipa).0 {
+            tables.start = level;
+            tables.root.push(address);
+            ipa += span(level);
+        }
+        tables
+    }
+
+    pub fn path(&self, ipa: u64) -> Path {
+        let (answer, read) = read_at(self.capture, &self.registers, ipa);
+        let absent = match answer {
+            Answer::Absent { address, .. } => Some(address),
+            _ => None,
+        };
+        Path { read, absent }
+    }
+
+    /// The first entry of the table that the entry of a level leads an IPA to.
+    fn below(&self, ipa: u64, level: u64) -> Option<u64> {
+        let path = self.path(ipa);
+        let depth = (level - self.start) as usize + 1;
+        path.read.get(depth).copied().or(if path.read.len() == depth { path.absent } else { None })
+    }
+
+    /// The lowest IPA whose walk reads the entry at an address as one of a level. Each table is gone through once for each level, so that
+    /// tables which are shared or lead to themselves take no longer.
+    pub fn lowest_ipa(&self, address: u64, level: u64) -> Option<u64> {
+        let mut seen = HashSet::new();
+        let entries = self.root.iter().enumerate().map(|(index, entry)| (index as u64 * span(self.start), *entry));
+        self.search(entries.collect(), self.start, (address, level), &mut seen)
+    }
+
+    fn search(&self, entries: Vec<(u64, u64)>, at: u64, wanted: (u64, u64), seen: &mut HashSet<(u64, u64)>) -> Option<u64> {
+        for (ipa, entry) in entries {
+            if (entry, at) == wanted {
+                return Some(ipa);
+            }
+            let below = match self.below(ipa, at) {
+                Some(table) if at < wanted.1 && seen.insert((table, at)) => table,
+                _ => continue,
+            };
+            let lower = (0..ENTRIES).map(|index| (ipa + index * span(at + 1), below + 8 * index));
+            if let Some(found) = self.search(lower.collect(), at + 1, wanted, seen) {
+                return Some(found);
+            }
+        }
+        None
+    }
 }
 
 /// A guest's entries in ascending order.
@@ -48,21 +128,14 @@ pub struct Entries<'a> {
     next: Option<u64>,
 }
 
-/// The entries of a guest with stage 2 on, or why its registers are refused.
-pub fn entries<'a>(capture: Capture<'a>, registers: &Registers) -> Result<Entries<'a>, Refusal> {
-    let mut registers = *registers;
-    registers.el2.hcr_el2 |= STAGE1_OFF;
-    registers.el1.tcr_el1 &= NO_TAGS;
-    let entries = Entries { capture, registers, next: Some(0) };
-    match entries.ask(Kind::Read, 0).0 {
-        Answer::Refused(refusal) => Err(refusal),
-        _ => Ok(entries),
-    }
+/// The entries of a guest with stage 2 on.
+pub fn entries<'a>(capture: Capture<'a>, registers: &Registers) -> Entries<'a> {
+    Entries { capture, registers: stage2_alone(registers), next: Some(0) }
 }
 
 impl Entries<'_> {
     fn ask(&self, kind: Kind, ipa: u64) -> (Answer, Reads) {
-        let told = translate(self.capture, &self.registers, Access { kind, el: 1, size: 1 }, ipa);
+        let told = translate(self.capture, &self.registers, Access { kind, ..READ }, ipa);
         (told.answer, told.reads)
     }
 

@@ -32,6 +32,14 @@ fn field(text: &Text, name: Word) -> Result<usize, Trouble> {
     })
 }
 
+/// The decimal form, which gdb prints with a sign where the top bit is set.
+fn signed(text: &Text, word: Word) -> Result<u64, Trouble> {
+    match word.text.parse::<i64>() {
+        Ok(number) => Ok(number as u64),
+        Err(_) => text.number(word),
+    }
+}
+
 /// The value of a line. Debuggers print more beside it: the size as (/64) before it, the same in decimal or its flags in brackets after it.
 fn value(text: &Text, name: Word, rest: &[Word]) -> Result<u64, Trouble> {
     let rest = if rest.first().map_or(false, |word| word.text == "(/64)") { &rest[1..] } else { rest };
@@ -40,7 +48,7 @@ fn value(text: &Text, name: Word, rest: &[Word]) -> Result<u64, Trouble> {
     match more {
         [] => Ok(value),
         [flags, ..] if flags.text.starts_with('[') => Ok(value),
-        [again] if text.number(*again)? == value => Ok(value),
+        [again] if signed(text, *again)? == value => Ok(value),
         [other, ..] => Err(text.wrong(*other, &format!("'{}' is not the value that stands before it", other.text))),
     }
 }

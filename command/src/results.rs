@@ -1,24 +1,72 @@
 //! Where results go. A file is there only when it is whole, and is never one that was read.
 use crate::trouble::{self, standard_output, Trouble};
-use rustix::fs::{cwd, linkat, AtFlags};
+use rustix::fs::{cwd, fcntl_getfl, linkat, AtFlags, OFlags};
 use std::fs::{self, File, OpenOptions};
 use std::io::{self, BufWriter, Write};
 use std::os::unix::fs::{MetadataExt, OpenOptionsExt};
 use std::os::unix::io::AsRawFd;
 use std::path::{Path, PathBuf};
-use tempfile::NamedTempFile;
 
-/// Linux's flag for a file without a name, which is gone if the run is killed.
-const O_TMPFILE: i32 = 0o20200000;
+/// Files that were opened for this command before it ran.
+pub const STANDARD_INPUT: &str = "/proc/self/fd/0";
+const STANDARD_OUTPUT: &str = "/proc/self/fd/1";
+const NULL: &str = "/dev/null";
+
+/// A file without a name, which is gone if the run is killed.
+const UNNAMED: i32 = OFlags::TMPFILE.bits() as i32;
+
+/// Which file a path leads to.
+fn identity(path: &Path) -> Option<(u64, u64)> {
+    fs::metadata(path).ok().map(|file| (file.dev(), file.ino()))
+}
+
+/// How people call a file.
+fn called(path: &Path) -> String {
+    match path {
+        path if path == Path::new(STANDARD_INPUT) => "standard input".to_string(),
+        path if path == Path::new(STANDARD_OUTPUT) => "standard output".to_string(),
+        path => path.display().to_string(),
+    }
+}
+
+/// Refuses to write over a file that the run reads, under whatever name, by the target or by standard output.
+pub fn not_an_input(target: Option<&Path>, inputs: &[&Path]) -> Result<(), Trouble> {
+    let regular = |path: &Path| fs::metadata(path).map_or(false, |file| file.is_file());
+    for target in target.into_iter().chain([Path::new(STANDARD_OUTPUT)]) {
+        if let Some(input) = inputs.iter().find(|input| regular(target) && identity(target) == identity(input)) {
+            return Err(Trouble::Usage(format!("{} is the input {}: write to another file", called(target), called(input))));
+        }
+    }
+    Ok(())
+}
+
+/// A closed standard output was replaced by the null device, open for reading too, before this command began: nobody would miss what is
+/// written there.
+pub fn standard_output_is_open() -> Result<(), Trouble> {
+    let both_ways = fcntl_getfl(io::stdout()).map_or(false, |flags| flags.contains(OFlags::RDWR));
+    if both_ways && identity(Path::new(STANDARD_OUTPUT)) == identity(Path::new(NULL)) {
+        return Err(Trouble::Io("standard output is closed".to_string()));
+    }
+    Ok(())
+}
 
 /// Results on their way.
 pub enum Results {
     /// To standard output, or to what is no regular file, as a pipe or a device.
     Straight { target: Option<PathBuf>, writer: BufWriter<Box<dyn Write>> },
-    /// To a file without a name in the target's folder.
-    Unnamed { target: PathBuf, writer: BufWriter<File> },
-    /// To a file with a name of its own in the target's folder, where its file system has none without.
-    Named { target: PathBuf, writer: BufWriter<NamedTempFile> },
+    /// To a file in the target's folder that has no name, or one of its own where the file system has none without.
+    Beside { target: PathBuf, name: Name, writer: BufWriter<File> },
+}
+
+/// The name of a file that is not whole. It goes with this, unless it was taken away.
+pub struct Name(Option<PathBuf>);
+
+impl Drop for Name {
+    fn drop(&mut self) {
+        if let Some(name) = &self.0 {
+            let _ = fs::remove_file(name);
+        }
+    }
 }
 
 fn folder(target: &Path) -> &Path {
@@ -28,89 +76,87 @@ fn folder(target: &Path) -> &Path {
     }
 }
 
-/// Refuses to write over a file that the run reads, under whatever name.
-pub fn not_an_input(target: &Path, inputs: &[&Path]) -> Result<(), Trouble> {
-    let identity = |path: &Path| fs::metadata(path).ok().filter(|file| file.is_file()).map(|file| (file.dev(), file.ino()));
-    let same = |input: &&&Path| identity(target).is_some() && identity(target) == identity(input);
-    match inputs.iter().find(same) {
-        Some(input) => Err(Trouble::Usage(format!("{} is the input {}: write to another file", target.display(), input.display()))),
-        None => Ok(()),
+/// Makes something under a name beside the target that no file has yet.
+fn beside<T>(target: &Path, make: impl Fn(&Path) -> io::Result<T>) -> io::Result<(T, Name)> {
+    let mut attempt = 0;
+    loop {
+        let mut name = std::ffi::OsString::from(".");
+        name.push(target.file_name().unwrap_or_default());
+        name.push(format!(".{}.{attempt}", std::process::id()));
+        let name = folder(target).join(name);
+        match make(&name) {
+            Ok(made) => return Ok((made, Name(Some(name)))),
+            Err(error) if error.kind() == io::ErrorKind::AlreadyExists => attempt += 1,
+            Err(error) => return Err(error),
+        }
     }
 }
 
-fn open_unnamed(target: &Path) -> io::Result<File> {
-    OpenOptions::new().write(true).custom_flags(O_TMPFILE).mode(0o666).open(folder(target))
+/// A file beside the target.
+fn open_beside(target: &Path) -> io::Result<(File, Name)> {
+    match OpenOptions::new().write(true).custom_flags(UNNAMED).mode(0o666).open(folder(target)) {
+        Ok(file) => Ok((file, Name(None))),
+        Err(_) => beside(target, |name| OpenOptions::new().write(true).create_new(true).open(name)),
+    }
 }
 
-/// A name beside the target that no file has.
-fn name_beside(target: &Path, attempt: u32) -> PathBuf {
-    let mut name = std::ffi::OsString::from(".");
-    name.push(target.file_name().unwrap_or_default());
-    name.push(format!(".{}.{attempt}", std::process::id()));
-    folder(target).join(name)
-}
-
-/// Gives a file without a name the target's, in the place of what has it. A link cannot replace a file, but a renamed one can.
-fn publish(file: &File, target: &Path) -> io::Result<()> {
-    let unnamed = format!("/proc/self/fd/{}", file.as_raw_fd());
-    let mut attempt = 0;
-    let named = loop {
-        let name = name_beside(target, attempt);
-        match linkat(cwd(), unnamed.as_str(), cwd(), &name, AtFlags::SYMLINK_FOLLOW) {
-            Ok(()) => break name,
-            Err(error) if error == rustix::io::Errno::EXIST => attempt += 1,
-            Err(error) => return Err(error.into()),
-        }
-    };
-    fs::rename(&named, target).map_err(|error| {
-        let _ = fs::remove_file(&named);
-        error
-    })
-}
-
-/// The rename itself is safe once the folder is.
-fn sync_folder(target: &Path) -> io::Result<()> {
+/// Gives a file that is whole the target's name, in the place of what has it. A link cannot replace a file, but a renamed one can.
+fn publish(file: &File, name: &mut Name, target: &Path) -> io::Result<()> {
+    file.sync_all()?;
+    if name.0.is_none() {
+        let unnamed = format!("/proc/self/fd/{}", file.as_raw_fd());
+        let link = |name: &Path| Ok(linkat(cwd(), unnamed.as_str(), cwd(), name, AtFlags::SYMLINK_FOLLOW)?);
+        *name = beside(target, link)?.1;
+    }
+    if let Some(whole) = &name.0 {
+        fs::rename(whole, target)?;
+        name.0 = None;
+    }
+    // The new name is safe once its folder is.
     File::open(folder(target))?.sync_all()
+}
+
+/// Where a link leads, so that the file there is replaced and not the link. What is not there yet has no link to follow.
+fn followed(target: &Path) -> io::Result<PathBuf> {
+    match fs::symlink_metadata(target) {
+        Ok(_) => fs::canonicalize(target),
+        Err(_) => Ok(target.to_path_buf()),
+    }
 }
 
 impl Results {
     pub fn open(target: Option<&Path>) -> Result<Results, Trouble> {
+        let straight = |target: Option<&Path>, file: Box<dyn Write>| {
+            Ok(Results::Straight { target: target.map(Path::to_path_buf), writer: BufWriter::new(file) })
+        };
         let target = match target {
-            Some(target) => target,
-            None => return Ok(Results::Straight { target: None, writer: BufWriter::new(Box::new(io::stdout())) }),
+            Some(target) if identity(target).is_none() || identity(target) != identity(Path::new(STANDARD_OUTPUT)) => target,
+            _ => return straight(None, Box::new(io::stdout())),
         };
         let wrong = |error| trouble::file("write", target, error);
         match fs::metadata(target) {
             Ok(there) if there.is_dir() => return Err(Trouble::Usage(format!("{} is a folder: name a file in it", target.display()))),
             Ok(there) if !there.is_file() => {
-                let file = OpenOptions::new().write(true).open(target).map_err(wrong)?;
-                return Ok(Results::Straight { target: Some(target.to_path_buf()), writer: BufWriter::new(Box::new(file)) });
+                return straight(Some(target), Box::new(OpenOptions::new().write(true).open(target).map_err(wrong)?));
             }
             _ => {}
         }
-        // A link is followed, so that the file that it leads to is replaced and not the link.
-        let target = fs::canonicalize(target).unwrap_or_else(|_| target.to_path_buf());
-        if let Ok(file) = open_unnamed(&target) {
-            return Ok(Results::Unnamed { target, writer: BufWriter::new(file) });
-        }
-        let file = tempfile::Builder::new().prefix(".humpelkaas.").tempfile_in(folder(&target)).map_err(wrong)?;
-        Ok(Results::Named { target, writer: BufWriter::new(file) })
+        let target = followed(target).map_err(wrong)?;
+        let (file, name) = open_beside(&target).map_err(wrong)?;
+        Ok(Results::Beside { target, name, writer: BufWriter::new(file) })
     }
 
     fn wrong(&self, error: io::Error) -> Trouble {
         match self {
             Results::Straight { target: None, .. } => standard_output(error),
-            Results::Straight { target: Some(target), .. } | Results::Unnamed { target, .. } | Results::Named { target, .. } => {
-                trouble::file("write", target, error)
-            }
+            Results::Straight { target: Some(target), .. } | Results::Beside { target, .. } => trouble::file("write", target, error),
         }
     }
 
     pub fn write(&mut self, bytes: &[u8]) -> Result<(), Trouble> {
         let written = match self {
             Results::Straight { writer, .. } => writer.write_all(bytes),
-            Results::Unnamed { writer, .. } => writer.write_all(bytes),
-            Results::Named { writer, .. } => writer.write_all(bytes),
+            Results::Beside { writer, .. } => writer.write_all(bytes),
         };
         written.map_err(|error| self.wrong(error))
     }
@@ -119,24 +165,8 @@ impl Results {
     pub fn finish(mut self) -> Result<(), Trouble> {
         let finished = match &mut self {
             Results::Straight { writer, .. } => writer.flush(),
-            Results::Unnamed { target, writer } => writer
-                .flush()
-                .and_then(|()| writer.get_ref().sync_all())
-                .and_then(|()| publish(writer.get_ref(), target))
-                .and_then(|()| sync_folder(target)),
-            Results::Named { .. } => return self.finish_named(),
+            Results::Beside { target, name, writer } => writer.flush().and_then(|()| publish(writer.get_ref(), name, target)),
         };
         finished.map_err(|error| self.wrong(error))
-    }
-
-    fn finish_named(self) -> Result<(), Trouble> {
-        if let Results::Named { target, writer } = self {
-            let wrong = |error| trouble::file("write", &target, error);
-            let file = writer.into_inner().map_err(|error| wrong(error.into_error()))?;
-            file.as_file().sync_all().map_err(wrong)?;
-            file.persist(&target).map_err(|error| wrong(error.error))?;
-            sync_folder(&target).map_err(wrong)?;
-        }
-        Ok(())
     }
 }

@@ -3,12 +3,14 @@
 //! The first guest's tables are document 01's: a walk of three levels at each stage. The second has its own, with a page that it may only
 //! read and a block of 2 MiB.
 use crate::arguments::{Arguments, Sample};
+use crate::results::Results;
 use crate::trouble::{self, standard_output, Status, Trouble};
 use clap::Parser;
 use std::fs;
 use std::io::{self, Write};
 use std::path::Path;
 
+const CAPTURE: &str = "capture.bin";
 const BASE: u64 = 0x4000_0000;
 const LENGTH: usize = 0x1_0000;
 
@@ -71,7 +73,7 @@ fn files() -> Vec<(&'static str, Vec<u8>)> {
     let registers = |vttbr: &str| REGISTERS.replace("VTTBR\n", &format!("{vttbr}\n")).into_bytes();
     let text = |text: &str| text.as_bytes().to_vec();
     vec![
-        ("capture.bin", capture()),
+        (CAPTURE, capture()),
         ("plate.registers", registers("0x40000000")),
         ("plate.addresses", text("0x1008\n0x2000\n")),
         ("plate.grants", text("# address bytes\n0x90000 0x1000\n0x40003000 0x3000\n")),
@@ -89,45 +91,54 @@ fn write(path: &Path, bytes: &[u8]) -> Result<(), Trouble> {
         Ok(there) if there == bytes => Ok(()),
         Ok(_) => Err(Trouble::Usage(format!("{} is there and is not the sample's: name another folder", path.display()))),
         Err(error) if error.kind() == io::ErrorKind::NotFound => {
-            fs::write(path, bytes).map_err(|error| trouble::file("write", path, error))
+            let mut results = Results::open(Some(path))?;
+            results.write(bytes)?;
+            results.finish()
         }
         Err(error) => Err(trouble::file("read", path, error)),
     }
 }
 
-/// What is run over the sample, in its folder DIR.
+/// Refuses a folder that has something else, so that no result takes the place of a file that is not the sample's.
+fn is_ours(folder: &Path) -> Result<(), Trouble> {
+    let wrong = |error| trouble::file("read the folder", folder, error);
+    let empty = fs::read_dir(folder).map_err(wrong)?.next().is_none();
+    if empty || fs::read(folder.join(CAPTURE)).map_or(false, |there| there == capture()) {
+        return Ok(());
+    }
+    Err(Trouble::Usage(format!("{} is not empty: name another folder", folder.display())))
+}
+
+/// What is run over the sample, in its folder.
 const RUNS: [&str; 6] = [
-    "ask 0x1008 --el 0 --capture DIR/capture.bin --base 0x40000000 --registers DIR/plate.registers",
-    "batch --el 0 --addresses DIR/plate.addresses --output DIR/plate.csv --capture DIR/capture.bin --base 0x40000000 --registers DIR/plate.registers",
-    "batch --el 0 --addresses DIR/spectra.addresses --output DIR/spectra.csv --capture DIR/capture.bin --base 0x40000000 --registers DIR/spectra.registers",
-    "audit --grants DIR/plate.grants --tables DIR/plate.tables --capture DIR/capture.bin --base 0x40000000 --registers DIR/plate.registers",
-    "audit --grants DIR/spectra.grants --tables DIR/spectra.tables --capture DIR/capture.bin --base 0x40000000 --registers DIR/spectra.registers",
-    "map --svg DIR/map.svg --capture DIR/capture.bin --base 0x40000000 --registers DIR/plate.registers --registers DIR/spectra.registers --grants DIR/plate.grants --grants DIR/spectra.grants",
+    "ask 0x1008 --el 0 --capture capture.bin --base 0x40000000 --registers plate.registers",
+    "batch --el 0 --addresses plate.addresses --output plate.csv --capture capture.bin --base 0x40000000 --registers plate.registers",
+    "batch --el 0 --addresses spectra.addresses --output spectra.csv --capture capture.bin --base 0x40000000 --registers spectra.registers",
+    "audit --grants plate.grants --tables plate.tables --capture capture.bin --base 0x40000000 --registers plate.registers",
+    "audit --grants spectra.grants --tables spectra.tables --capture capture.bin --base 0x40000000 --registers spectra.registers",
+    "map --svg map.svg --capture capture.bin --base 0x40000000 --registers plate.registers --grants plate.grants --registers spectra.registers --grants spectra.grants",
 ];
 
-fn run_one(line: &str, folder: &Path, out: &mut dyn Write) -> Result<Status, Trouble> {
-    let shown = line.replace("DIR", &folder.to_string_lossy());
-    writeln!(out, "\n$ humpelkaas {shown}").map_err(standard_output)?;
-    // By words and not by the line shown: a folder's name may have spaces.
-    let words = line.split(' ').map(|word| match word.strip_prefix("DIR/") {
-        Some(file) => folder.join(file).into_os_string(),
-        None => word.into(),
-    });
-    let arguments =
-        Arguments::try_parse_from(std::iter::once("humpelkaas".into()).chain(words)).map_err(|wrong| Trouble::Usage(wrong.to_string()))?;
+fn run_one(line: &str, out: &mut dyn Write) -> Result<Status, Trouble> {
+    writeln!(out, "\n$ humpelkaas {line}").map_err(standard_output)?;
+    let words = std::iter::once("humpelkaas").chain(line.split(' '));
+    let arguments = Arguments::try_parse_from(words).map_err(|wrong| Trouble::Usage(wrong.to_string()))?;
     crate::run(&arguments.verb, out)
 }
 
 pub fn run(arguments: &Sample, out: &mut dyn Write) -> Result<Status, Trouble> {
     let folder = &arguments.folder;
-    fs::create_dir_all(folder).map_err(|error| trouble::file("make the folder", folder, error))?;
+    let wrong = |error| trouble::file("make the folder", folder, error);
+    fs::create_dir_all(folder).map_err(wrong)?;
+    is_ours(folder)?;
     for (name, bytes) in files() {
         write(&folder.join(name), &bytes)?;
     }
-    writeln!(out, "A sample capture of two guests is in {}.", folder.display()).map_err(standard_output)?;
+    writeln!(out, "A sample capture of two guests is in {}. In that folder:", folder.display()).map_err(standard_output)?;
+    std::env::set_current_dir(folder).map_err(wrong)?;
     let mut whole = Status::Complete;
     for line in RUNS {
-        whole = whole.max(run_one(line, folder, out)?);
+        whole = whole.max(run_one(line, out)?);
     }
     Ok(whole)
 }

@@ -1,8 +1,13 @@
 //! Register bits that ask for what is out of scope, and that change answers on processors which have it.
+use crate::trouble::say;
 use humpelkaas::Registers;
+use std::borrow::Borrow;
+
+/// A bit: its name, its place, and the register that has it.
+type Bit = (&'static str, u32, fn(&Registers) -> u64);
 
 /// Hardware update of table flags, and hierarchical permission disables.
-const BITS: [(&str, u32, fn(&Registers) -> u64); 6] = [
+const BITS: [Bit; 6] = [
     ("TCR_EL1.HA", 39, |r| r.el1.tcr_el1),
     ("TCR_EL1.HD", 40, |r| r.el1.tcr_el1),
     ("TCR_EL1.HPD0", 41, |r| r.el1.tcr_el1),
@@ -17,11 +22,11 @@ pub fn bits(registers: &Registers) -> Vec<&'static str> {
 }
 
 /// Says on the error stream which those are.
-pub fn warn(bits: &[&str]) {
+pub fn warn<T: Borrow<str>>(bits: &[T]) {
     if !bits.is_empty() {
-        eprintln!(
-            "humpelkaas: warning: set and out of scope: {}: answers are those of Arm's first edition, which has none of these",
+        say(&format!(
+            "warning: set and out of scope: {}: answers are those of Arm's first edition, which has none of these",
             bits.join(", ")
-        );
+        ));
     }
 }

@@ -3,14 +3,10 @@
 //! The log has addresses alone. Which stage and level each read belongs to follows from where walks start, which the library says of an
 //! empty capture ("not in the capture: stage, level"), and from which descriptors are tables. What the last one ends with is the answer.
 use crate::capture::CaptureFile;
+use crate::layout::{address, is_leaf, is_table, span, PAGE, VM};
 use crate::probe::{self, Leaf};
 use humpelkaas::{translate, Access, Answer, Capture, Registers, Stage, Told};
 use std::fmt;
-
-const STAGE2_ON: u64 = 1;
-/// Address bits of a descriptor.
-const ADDRESS: u64 = (1 << 48) - 1;
-const LAST_LEVEL: u64 = 3;
 
 /// The levels at which walks start, of each stage that is on.
 #[derive(Clone, Copy)]
@@ -60,11 +56,6 @@ pub struct Step {
     pub says: Says,
 }
 
-/// The size of what an entry at a level spans.
-pub fn span(level: u64) -> u64 {
-    1 << (12 + 9 * (LAST_LEVEL - level))
-}
-
 fn first_read(registers: &Registers, access: Access, address: u64) -> Option<(Stage, u64)> {
     match translate(Capture { base: 0, bytes: &[] }, registers, access, address).answer {
         Answer::Absent { stage, level, .. } => Some((stage, level)),
@@ -80,7 +71,7 @@ pub fn starts(registers: &Registers, access: Access, address: u64) -> Option<Sta
         Stage::Two { onwalk: false } => Some(Starts { stage1: None, stage2: Some(level) }),
         Stage::Two { onwalk: true } => {
             let mut alone = *registers;
-            alone.el2.hcr_el2 &= !STAGE2_ON;
+            alone.el2.hcr_el2 &= !VM;
             let (_, stage1) = first_read(&alone, access, address)?;
             Some(Starts { stage1: Some(stage1), stage2: Some(level) })
         }
@@ -125,20 +116,17 @@ impl Next {
 
 /// What a descriptor says at a stage and level; `imposed` is what stage 1's tables above it say, or-ed.
 fn says(registers: &Registers, stage: Stage, level: u64, imposed: u64, value: u64) -> Says {
-    match value & 0b11 {
-        0b11 if level < LAST_LEVEL => Says::Table { address: value & ADDRESS & !(span(LAST_LEVEL) - 1) },
-        0b11 => leaf(registers, stage, level, imposed, value),
-        0b01 if level == 1 || level == 2 => leaf(registers, stage, level, imposed, value),
-        _ => Says::Invalid,
+    if is_table(value, level) {
+        return Says::Table { address: address(value, PAGE) };
     }
-}
-
-fn leaf(registers: &Registers, stage: Stage, level: u64, imposed: u64, value: u64) -> Says {
+    if !is_leaf(value, level) {
+        return Says::Invalid;
+    }
     let leaf = match stage {
         Stage::One => probe::stage1(registers, imposed, value),
         Stage::Two { .. } => probe::stage2(registers, value),
     };
-    Says::Leaf { address: value & ADDRESS & !(span(level) - 1), size: span(level), leaf }
+    Says::Leaf { address: address(value, span(level)), size: span(level), leaf }
 }
 
 /// The steps of a question, or none if they do not fit its answer: then the log was read wrongly, and nothing is said of it.
@@ -165,7 +153,7 @@ fn fits(steps: &[Step], next: Next, answer: &Answer) -> bool {
     let last = steps.last().map(|step| (step.stage, step.level));
     let leaf = |stage: u64| {
         let of_stage = |step: &&Step| step.stage.number() == stage && !step.stage.onwalk();
-        steps.iter().filter(of_stage).last().map_or(0, |step| step.level)
+        steps.iter().rev().find(of_stage).map_or(0, |step| step.level)
     };
     match *answer {
         Answer::Translated { level1, level2, .. } => next == Next::Nothing && leaf(1) == level1 && leaf(2) == level2,
@@ -184,7 +172,7 @@ impl fmt::Display for Says {
     fn fmt(&self, f: &mut fmt::Formatter) -> fmt::Result {
         match self {
             Says::Table { address } => write!(f, "table at {address:#x}"),
-            Says::Leaf { address, size, leaf } if *size == span(LAST_LEVEL) => write!(f, "page at {address:#x}, {leaf}"),
+            Says::Leaf { address, size, leaf } if *size == PAGE => write!(f, "page at {address:#x}, {leaf}"),
             Says::Leaf { address, size, leaf } => write!(f, "block of {size:#x} at {address:#x}, {leaf}"),
             Says::Invalid => f.write_str("invalid"),
         }

@@ -1,6 +1,6 @@
 //! How a run ends: the exit status, and what is said when it cannot go on.
 use std::fmt;
-use std::io;
+use std::io::{self, Write};
 use std::path::Path;
 
 /// How a run ended that could be carried out.
@@ -48,6 +48,11 @@ fn advice(error: &io::Error) -> &'static str {
         _ if error.raw_os_error() == Some(28) => " Make room and run again: nothing was put in the place of a result.",
         _ => "",
     }
+}
+
+/// Says something on the error stream. If nobody can read it there, that is no reason to end otherwise.
+pub fn say(what: &str) {
+    let _ = writeln!(io::stderr(), "humpelkaas: {what}");
 }
 
 /// An error over a file.
