@@ -56,8 +56,7 @@ fn clean() {
     let expected = "clean\nevery access of the guest through the root and 2 listed tables stays in its 2 grants, whatever it does\n";
     Audit::case_m().run("").ends(0).prints(expected).says("");
     let json = Audit::case_m().run("--json").ends(0).json();
-    let expected =
-        json!({ "answer": "clean", "number": 0, "item": null, "address": null, "words": "clean", "entry": null, "out_of_scope": [] });
+    let expected = json!({ "answer": "clean", "number": 0, "item": null, "address": null, "words": "clean", "what_to_do": null, "entry": null, "out_of_scope": [] });
     assert_eq!(json, expected);
 }
 
@@ -94,14 +93,14 @@ fn finding_2() {
 fn finding_3() {
     // Entry 0 of a table of level 2: 2 MiB from IPA 0 on.
     let tables = |tables| Audit { tables, ..Audit::case_m() };
-    let entry = "0x40002003: it leads IPAs 0x0 to 0x1fffff to the table at 0x40002000";
+    let entry = "0x40002003: at level 2 it leads to the table at 0x40002000, for IPAs 0x0 to 0x1fffff";
     tables("0x40001000 2\n").finds("finding 3 0x40001000", Some(entry), LIST_IT);
     tables("0x40001000 2\n0x40002000 2\n").finds("finding 3 0x40001000", Some(entry), LIST_IT);
     // Entry 0 of the root, of level 1: 1 GiB.
-    let entry = "0x40001003: it leads IPAs 0x0 to 0x3fffffff to the table at 0x40001000";
+    let entry = "0x40001003: at level 1 it leads to the table at 0x40001000, for IPAs 0x0 to 0x3fffffff";
     tables("0x40002000 3\n").finds("finding 3 0x40000000", Some(entry), LIST_IT);
     // Entry 0x1f of the root, whose table is not in the capture either.
-    let entry = "0xf00000050000003: it leads IPAs 0x7c0000000 to 0x7ffffffff to the table at 0x50000000";
+    let entry = "0xf00000050000003: at level 1 it leads to the table at 0x50000000, for IPAs 0x7c0000000 to 0x7ffffffff";
     Audit::with(&[(0x4000_00f8, 0x0f00_0000_5000_0003)]).finds("finding 3 0x400000f8", Some(entry), LIST_IT);
 }
 
@@ -114,10 +113,8 @@ fn finding_3_in_json() {
         "item": null,
         "address": "0x40001000",
         "words": "finding 3 at 0x40001000: the entry leads to a table that is not listed one level lower down",
-        "entry": {
-            "value": "0x40002003",
-            "through": { "ipa": "0x0", "size": "0x200000", "to": "0x40002000", "table": true },
-        },
+        "what_to_do": LIST_IT,
+        "entry": { "value": "0x40002003", "level": 2, "table": true, "to": "0x40002000", "size": "0x200000", "ipa": "0x0" },
         "out_of_scope": [],
     });
     assert_eq!(json, expected);
@@ -127,38 +124,38 @@ fn finding_3_in_json() {
 #[test]
 fn finding_4_by_a_page() {
     let grants = |grants| Audit { grants, ..Audit::case_m() };
-    let entry = "0x907ff: it maps IPAs 0x50000 to 0x50fff to physical 0x90000 to 0x90fff";
+    let entry = "0x907ff: at level 3 it maps physical 0x90000 to 0x90fff, for IPAs 0x50000 to 0x50fff";
     grants("0x40003000 0x3000\n").finds("finding 4 0x40002280", Some(entry), GRANT_IT);
     grants("0x8f000 0x1000\n0x40003000 0x3000\n").finds("finding 4 0x40002280", Some(entry), GRANT_IT);
     let json = grants("0x40003000 0x3000\n").run("--json").ends(1).json();
     assert_eq!(json["address"], json!("0x40002280"));
-    let through = json!({ "ipa": "0x50000", "size": "0x1000", "to": "0x90000", "table": false });
-    assert_eq!(json["entry"], json!({ "value": "0x907ff", "through": through }));
+    let entry = json!({ "value": "0x907ff", "level": 3, "table": false, "to": "0x90000", "size": "0x1000", "ipa": "0x50000" });
+    assert_eq!((&json["entry"], &json["what_to_do"]), (&entry, &json!(GRANT_IT)));
 }
 
 /// Entry 1 of a table of level 2 is IPAs 0x200000 on, of the root those from 1 GiB on.
 #[test]
 fn finding_4_by_a_block() {
-    let entry = "0x400000800007fd: it maps IPAs 0x200000 to 0x3fffff to physical 0x80000000 to 0x801fffff";
+    let entry = "0x400000800007fd: at level 2 it maps physical 0x80000000 to 0x801fffff, for IPAs 0x200000 to 0x3fffff";
     Audit::with(&[(0x4000_1008, 0x0040_0000_8000_07fd)]).finds("finding 4 0x40001008", Some(entry), GRANT_IT);
-    let entry = "0x1c00007fd: it maps IPAs 0x40000000 to 0x7fffffff to physical 0x1c0000000 to 0x1ffffffff";
+    let entry = "0x1c00007fd: at level 1 it maps physical 0x1c0000000 to 0x1ffffffff, for IPAs 0x40000000 to 0x7fffffff";
     Audit::with(&[(0x4000_0008, 0x1_c000_07fd)]).finds("finding 4 0x40000008", Some(entry), GRANT_IT);
     // Bits below a block's size are no part of its address.
-    let entry = "0x801ff7fd: it maps IPAs 0x200000 to 0x3fffff to physical 0x80000000 to 0x801fffff";
+    let entry = "0x801ff7fd: at level 2 it maps physical 0x80000000 to 0x801fffff, for IPAs 0x200000 to 0x3fffff";
     Audit::with(&[(0x4000_1008, 0x801f_f7fd)]).finds("finding 4 0x40001008", Some(entry), GRANT_IT);
 }
 
 /// What no access gets through today counts all the same: without an access flag, without rights, beyond the output size.
 #[test]
 fn finding_4_by_what_faults() {
-    let entry = "0x903ff: it maps IPAs 0x51000 to 0x51fff to physical 0x90000 to 0x90fff";
+    let entry = "0x903ff: at level 3 it maps physical 0x90000 to 0x90fff, for IPAs 0x51000 to 0x51fff";
     let page = |word| Audit { grants: "0x40003000 0x3000\n", ..Audit::with(&[(0x4000_2280, 0), (0x4000_2288, word)]) };
     page(0x9_03ff).finds("finding 4 0x40002288", Some(entry), GRANT_IT);
-    page(0x9_073f).finds("finding 4 0x40002288", Some(&entry.replace("903ff", "9073f")), GRANT_IT);
-    let entry = "0x8000000907ff: it maps IPAs 0x51000 to 0x51fff to physical 0x800000090000 to 0x800000090fff";
+    page(0x9_073f).finds("finding 4 0x40002288", Some(&entry.replace("0x903ff", "0x9073f")), GRANT_IT);
+    let entry = "0x8000000907ff: at level 3 it maps physical 0x800000090000 to 0x800000090fff, for IPAs 0x51000 to 0x51fff";
     page(0x8000_0009_07ff).finds("finding 4 0x40002288", Some(entry), GRANT_IT);
     // Attributes that have no meaning.
-    let entry = "0x907f3: it maps IPAs 0x51000 to 0x51fff to physical 0x90000 to 0x90fff";
+    let entry = "0x907f3: at level 3 it maps physical 0x90000 to 0x90fff, for IPAs 0x51000 to 0x51fff";
     page(0x9_07f3).finds("finding 4 0x40002288", Some(entry), GRANT_IT);
 }
 
@@ -168,7 +165,7 @@ fn finding_4_in_a_long_root() {
     // An input size of 40 bits, of which the root's index has 10.
     let registers = Registers { vtcr_el2: 0x2_0058, ..Registers::cases() };
     let memory = Memory::zeros(0x4000_0000, 0x8000).with(&[(0x4000_12c0, 0x1_0000_07fd)]);
-    let entry = "0x1000007fd: it maps IPAs 0x9600000000 to 0x963fffffff to physical 0x100000000 to 0x13fffffff";
+    let entry = "0x1000007fd: at level 1 it maps physical 0x100000000 to 0x13fffffff, for IPAs 0x9600000000 to 0x963fffffff";
     Audit { memory, registers, grants: GRANTS, tables: "" }.finds("finding 4 0x400012c0", Some(entry), GRANT_IT);
 }
 
@@ -176,16 +173,21 @@ fn finding_4_in_a_long_root() {
 #[test]
 fn an_entry_that_no_ipa_goes_through() {
     let audit = Audit { tables: "0x40001000 2\n0x40002000 3\n0x40006000 3\n", ..Audit::with(&[(0x4000_6010, 0x7_77ff)]) };
-    audit.finds("finding 4 0x40006010", Some("0x777ff: no IPA goes through it"), GRANT_IT);
+    audit.finds(
+        "finding 4 0x40006010",
+        Some("0x777ff: at level 3 it maps physical 0x77000 to 0x77fff, and no IPA goes through it"),
+        GRANT_IT,
+    );
     let json = audit.run("--json").ends(1).json();
-    assert_eq!(json["entry"], json!({ "value": "0x777ff", "through": null }));
+    let entry = json!({ "value": "0x777ff", "level": 3, "table": false, "to": "0x77000", "size": "0x1000", "ipa": null });
+    assert_eq!(json["entry"], entry);
 }
 
 /// A table with two ways to it: the first IPA is told.
 #[test]
 fn an_entry_with_two_ways_to_it() {
     let audit = Audit { grants: "0x40003000 0x3000\n", ..Audit::with(&[(0x4000_1018, 0x4000_2003)]) };
-    let entry = "0x907ff: it maps IPAs 0x50000 to 0x50fff to physical 0x90000 to 0x90fff";
+    let entry = "0x907ff: at level 3 it maps physical 0x90000 to 0x90fff, for IPAs 0x50000 to 0x50fff";
     audit.finds("finding 4 0x40002280", Some(entry), GRANT_IT);
     // The way at IPA 0 is gone: entry 3 of the table of level 2 is IPAs 0x600000 on.
     let audit = Audit { grants: "0x40003000 0x3000\n", ..Audit::with(&[(0x4000_1000, 0), (0x4000_1018, 0x4000_2003)]) };
@@ -197,7 +199,7 @@ fn an_entry_with_two_ways_to_it() {
 #[test]
 fn an_entry_at_two_levels() {
     let audit = Audit { tables: "0x40001000 2\n0x40001000 3\n0x40002000 3\n", ..Audit::with(&[(0x4000_1008, 0x4000_17ff)]) };
-    let entry = "0x40002003: it maps IPAs 0x200000 to 0x200fff to physical 0x40002000 to 0x40002fff";
+    let entry = "0x40002003: at level 3 it maps physical 0x40002000 to 0x40002fff, for IPAs 0x200000 to 0x200fff";
     audit.finds("finding 4 0x40001000", Some(entry), GRANT_IT);
 }
 
@@ -213,5 +215,8 @@ fn a_tree_that_is_shared() {
     bench.write("tables", "0x40001000 1\n0x40002000 2\n0x40003000 3\n");
     let mut command = bench.through("timeout", "5");
     command.arg(COMMAND).args(bench.words("audit --grants grants --tables tables").split_whitespace());
-    Ran::of(command).ends(1).shows(&["finding 4 0x40003008\n", "the entry's value is 0x777ff: no IPA goes through it\n"]);
+    Ran::of(command).ends(1).shows(&[
+        "finding 4 0x40003008\n",
+        "the entry's value is 0x777ff: at level 3 it maps physical 0x77000 to 0x77fff, and no IPA goes through it\n",
+    ]);
 }

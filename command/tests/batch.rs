@@ -286,7 +286,7 @@ fn where_a_wrong_line_is() {
 #[test]
 fn long_lines_and_blocks() {
     let bench = Bench::cases();
-    let long = format!("0x1008 # {}\n", "-".repeat(600_000));
+    let long = format!("0x1008 # {}\n", "-".repeat(200_000));
     bench.write("list", format!("{long}0x2000\n{long}0x1008"));
     let results = "0x1008,0,0x90008\n0x2000,1,0x0\n0x1008,0,0x90008\n0x1008,0,0x90008\n";
     let ledger = "asked 4 translated 3 faulted 1 absent 0 unsettled 0\n";
@@ -297,4 +297,19 @@ fn long_lines_and_blocks() {
         bench.write("list", format!("{comment}0x1008\r\n0x2000\r\nwrong\r\n"));
         bench.over("batch --addresses list").ends(3).warns(&["list:4:1: 'wrong' is not a number"]);
     }
+}
+
+/// A file that is no list, as a capture is: it is named, and neither read to its end nor printed.
+#[test]
+fn a_line_without_an_end() {
+    let bench = Bench::cases();
+    let said = "a line is over 262144 bytes: is this the file of addresses?\n";
+    bench.write("list", vec![0; 1 << 20]);
+    let ran = bench.over("batch --addresses list --output out.csv").ends(3).prints("").warns(&["list:1", said]);
+    assert!(ran.stderr.len() < 200, "{} bytes on the error stream", ran.stderr.len());
+    bench.write("list", ["0x1008\n".as_bytes(), &vec![0; 1 << 20]].concat());
+    bench.over("batch --addresses list --output out.csv").ends(3).prints("").warns(&["list:2", said]);
+    // One that has no end to be read.
+    bench.over("batch --addresses /dev/zero --output out.csv").ends(3).prints("").warns(&["/dev/zero", said]);
+    assert_eq!(bench.names(), ["capture.bin", "guest.registers", "list"]);
 }

@@ -18,13 +18,13 @@ const FILES: [&str; 12] = [
     "spectra.tables",
 ];
 
-/// What is run over the sample is what the verb alone prints.
+/// What is run over the sample is what each verb alone prints.
 #[test]
 fn all_that_it_prints() {
     let bench = Bench::empty(0);
-    let ran = bench.run("sample one").ends(0).says("");
+    let ran = bench.run("sample .").ends(0).says("");
     let mut parts = ran.stdout.split("\n$ humpelkaas ");
-    assert_eq!(parts.next(), Some("A sample capture of two guests is in one.\n"));
+    assert_eq!(parts.next(), Some("A sample capture of two guests is in .. In that folder:\n"));
     let mut verbs = Vec::new();
     for part in parts {
         let (words, printed) = part.split_once('\n').expect("a line and what it prints");
@@ -32,11 +32,8 @@ fn all_that_it_prints() {
         bench.run(words).ends(0).prints(printed).says("");
     }
     assert_eq!(verbs, ["ask", "batch", "batch", "audit", "audit", "map"]);
-    let mut names: Vec<_> =
-        std::fs::read_dir(bench.path("one")).expect("the folder").map(|file| file.expect("a file").file_name()).collect();
-    names.sort();
-    assert_eq!(names, FILES);
-    assert_eq!(bench.text("one/plate.csv"), "address,answer,output\n0x1008,0,0x90008\n0x2000,1,0x0\n");
+    assert_eq!(bench.names(), FILES);
+    assert_eq!(bench.text("plate.csv"), "address,answer,output\n0x1008,0,0x90008\n0x2000,1,0x0\n");
 }
 
 /// It may be run again, and in a folder that is there.
@@ -61,7 +58,8 @@ fn files_of_ones_own() {
         let kept = Kept::of(&bench.path(name));
         let ran = bench.run("sample .");
         kept.check();
-        ran.ends(64).warns(&[name, "is there and is not the sample's: name another folder"]);
+        ran.ends(64).prints("").warns(&["name another folder"]);
+        assert_eq!(bench.names(), [name]);
     }
 }
 
