@@ -15,13 +15,21 @@ pub struct Addresses {
     /// What was read of the next block already.
     rest: Vec<u8>,
     ended: bool,
+    /// How many lines the blocks before it have.
+    lines: u64,
     /// How many bytes the file has, if that is known.
     pub length: Option<u64>,
 }
 
-/// A line that is no address, counted from the start of its block.
+/// Whole lines, and how many come before them.
+pub struct Block {
+    pub bytes: Vec<u8>,
+    before: u64,
+}
+
+/// A line that is no address.
 pub struct Wrong {
-    pub line: u64,
+    line: u64,
     column: usize,
     what: String,
 }
@@ -40,35 +48,37 @@ impl Addresses {
             }
             (Box::new(file), metadata.is_file().then_some(metadata.len()))
         };
-        Ok(Addresses { path: path.to_path_buf(), reader, rest: Vec::new(), ended: false, length })
+        Ok(Addresses { path: path.to_path_buf(), reader, rest: Vec::new(), ended: false, lines: 0, length })
     }
 
     /// The next lines; none at the end.
-    pub fn block(&mut self) -> Result<Option<Vec<u8>>, Trouble> {
-        let mut block = std::mem::take(&mut self.rest);
-        while !self.ended && block.len() < BLOCK {
-            let taken = self.reader.by_ref().take(BLOCK as u64).read_to_end(&mut block);
+    pub fn block(&mut self) -> Result<Option<Block>, Trouble> {
+        let mut bytes = std::mem::take(&mut self.rest);
+        while !self.ended && bytes.len() < BLOCK {
+            let taken = self.reader.by_ref().take(BLOCK as u64).read_to_end(&mut bytes);
             let taken = taken.map_err(|error| trouble::file("read the addresses", &self.path, error))?;
             self.ended = taken == 0;
         }
+        let before = self.lines;
         if !self.ended {
-            let last = block.iter().rposition(|byte| *byte == b'\n').ok_or_else(|| {
-                Trouble::Io(format!("{}: a line is over {BLOCK} bytes: is this the file of addresses?", self.path.display()))
+            let last = bytes.iter().rposition(|byte| *byte == b'\n').ok_or_else(|| {
+                let what = format!("a line is over {BLOCK} bytes: is this the file of addresses?");
+                self.wrong(&Wrong { line: before + 1, column: 1, what })
             })?;
-            self.rest = block.split_off(last + 1);
+            self.rest = bytes.split_off(last + 1);
         }
-        Ok((!block.is_empty()).then_some(block))
+        self.lines += lines(&bytes);
+        Ok((!bytes.is_empty()).then_some(Block { bytes, before }))
     }
 
-    /// The error of a line, after so many lines before its block.
-    pub fn wrong(&self, before: u64, wrong: &Wrong) -> Trouble {
-        Trouble::Io(format!("{}:{}:{}: {}", self.path.display(), before + wrong.line, wrong.column, wrong.what))
+    /// The error of a line.
+    pub fn wrong(&self, wrong: &Wrong) -> Trouble {
+        Trouble::Io(format!("{}:{}:{}: {}", self.path.display(), wrong.line, wrong.column, wrong.what))
     }
 }
 
-/// How many lines a block has.
-pub fn lines(block: &[u8]) -> u64 {
-    block.iter().filter(|byte| **byte == b'\n').count() as u64
+fn lines(bytes: &[u8]) -> u64 {
+    bytes.iter().filter(|byte| **byte == b'\n').count() as u64
 }
 
 /// The number of a line in the form that files of addresses mostly have.
@@ -96,14 +106,14 @@ fn address(line: &[u8]) -> Result<Option<u64>, (usize, String)> {
 }
 
 /// The addresses of a block.
-pub fn parse(block: &[u8]) -> Result<Vec<u64>, Wrong> {
-    let mut addresses = Vec::with_capacity(block.len() / 8);
-    for (index, line) in block.split(|byte| *byte == b'\n').enumerate() {
+pub fn parse(block: &Block) -> Result<Vec<u64>, Wrong> {
+    let mut addresses = Vec::with_capacity(block.bytes.len() / 8);
+    for (index, line) in block.bytes.split(|byte| *byte == b'\n').enumerate() {
         let line = line.strip_suffix(b"\r").unwrap_or(line);
         match address(line) {
             Ok(Some(address)) => addresses.push(address),
             Ok(None) => {}
-            Err((column, what)) => return Err(Wrong { line: index as u64 + 1, column, what }),
+            Err((column, what)) => return Err(Wrong { line: block.before + index as u64 + 1, column, what }),
         }
     }
     Ok(addresses)

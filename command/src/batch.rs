@@ -1,5 +1,5 @@
 //! A file of addresses: blocks of it go through the library on all cores, and results are written in their order.
-use crate::addresses::{self, Addresses, Wrong};
+use crate::addresses::{self, Addresses, Block, Wrong};
 use crate::arguments::{Batch, Format};
 use crate::capture::CaptureFile;
 use crate::progress::Progress;
@@ -71,7 +71,7 @@ impl Question<'_> {
     }
 
     /// The results of a block, as text.
-    fn block(&self, block: &[u8]) -> Result<Done, Failed> {
+    fn block(&self, block: &Block) -> Result<Done, Failed> {
         let addresses = addresses::parse(block).map_err(Failed::Line)?;
         let mut done = Done { text: Vec::with_capacity(addresses.len() * 40), ledger: Ledger::default() };
         let mut entries = Entries::default();
@@ -87,7 +87,7 @@ impl Question<'_> {
 }
 
 /// The next blocks, one or more for each core.
-fn blocks(addresses: &mut Addresses) -> Result<Vec<Vec<u8>>, Trouble> {
+fn blocks(addresses: &mut Addresses) -> Result<Vec<Block>, Trouble> {
     let mut blocks = Vec::new();
     while blocks.len() < BLOCKS * rayon::current_num_threads() {
         match addresses.block()? {
@@ -105,7 +105,6 @@ fn answer_all(question: &Question, addresses: &mut Addresses, results: &mut Resu
     }
     let progress = Progress::of_bytes(addresses.length);
     let mut whole = Ledger::default();
-    let mut lines = 0;
     loop {
         let blocks = blocks(addresses)?;
         if blocks.is_empty() {
@@ -115,14 +114,13 @@ fn answer_all(question: &Question, addresses: &mut Addresses, results: &mut Resu
         let done: Vec<_> = blocks.par_iter().map(|block| question.block(block)).collect();
         for (block, done) in blocks.iter().zip(done) {
             let done = done.map_err(|failed| match failed {
-                Failed::Line(wrong) => addresses.wrong(lines, &wrong),
+                Failed::Line(wrong) => addresses.wrong(&wrong),
                 // The first batch was accepted, and no later one has other registers.
                 Failed::Refused(refusal) => Trouble::Io(format!("a later batch was refused: {refusal}")),
             })?;
             results.write(&done.text)?;
-            lines += addresses::lines(block);
             whole = whole + done.ledger;
-            progress.pass(block.len() as u64, whole.asked);
+            progress.pass(block.bytes.len() as u64, whole.asked);
         }
     }
 }

@@ -116,12 +116,18 @@ fn publish(file: &File, name: &mut Name, target: &Path) -> io::Result<()> {
     File::open(folder(target))?.sync_all()
 }
 
-/// Where a link leads, so that the file there is replaced and not the link. What is not there yet has no link to follow.
+/// Where links lead, so that the file there is replaced, or made, and not the link. Of links that lead in a circle the system says so.
 fn followed(target: &Path) -> io::Result<PathBuf> {
-    match fs::symlink_metadata(target) {
-        Ok(_) => fs::canonicalize(target),
-        Err(_) => Ok(target.to_path_buf()),
+    let mut followed = target.to_path_buf();
+    while let Ok(next) = fs::read_link(&followed) {
+        if let Err(error) = fs::metadata(target) {
+            if error.kind() != io::ErrorKind::NotFound {
+                return Err(error);
+            }
+        }
+        followed = folder(&followed).join(next);
     }
+    Ok(followed)
 }
 
 impl Results {
@@ -141,9 +147,9 @@ impl Results {
             }
             _ => {}
         }
-        let target = followed(target).map_err(wrong)?;
-        let (file, name) = open_beside(&target).map_err(wrong)?;
-        Ok(Results::Beside { target, name, writer: BufWriter::new(file) })
+        let followed = followed(target).map_err(wrong)?;
+        let (file, name) = open_beside(&followed).map_err(wrong)?;
+        Ok(Results::Beside { target: followed, name, writer: BufWriter::new(file) })
     }
 
     fn wrong(&self, error: io::Error) -> Trouble {

@@ -411,7 +411,7 @@ fn old_results_are_replaced_at_once() {
     assert_eq!(bench.text("out.csv"), RESULTS);
 }
 
-/// A link stays a link, and what it leads to is replaced.
+/// A link stays a link, and what it leads to is replaced, or made.
 #[test]
 fn an_output_through_a_link() {
     let bench = bench();
@@ -421,10 +421,13 @@ fn an_output_through_a_link() {
     bench.over("batch --addresses list --output link").ends(0).prints(LEDGER);
     assert!(fs::symlink_metadata(bench.path("link")).expect("the link").file_type().is_symlink(), "the link was replaced");
     assert_eq!(bench.text("results/out.csv"), RESULTS);
-    // One that leads nowhere is not taken for a file.
     fs::remove_file(bench.path("results/out.csv")).expect("the results");
-    bench.over("batch --addresses list --output link").ends(3).prints("").warns(&["cannot write link: No such file or directory"]);
+    bench.over("batch --addresses list --output link").ends(0).prints(LEDGER);
     assert!(fs::symlink_metadata(bench.path("link")).expect("the link").file_type().is_symlink(), "the link was replaced");
+    assert_eq!(bench.text("results/out.csv"), RESULTS);
+    // Links in a circle lead to no file.
+    symlink("round", bench.path("round")).expect("a link");
+    bench.over("batch --addresses list --output round").ends(3).prints("").warns(&["cannot write round"]);
 }
 
 /// A pipe as output gets the results, and the ledger goes to standard output.
