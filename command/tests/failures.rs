@@ -432,7 +432,8 @@ fn an_output_through_a_link() {
 fn an_output_that_is_a_pipe() {
     let bench = bench();
     assert!(bench.through("mkfifo", "pipe").status().expect("mkfifo runs").success());
-    let mut reader = bench.through("cat", "pipe");
+    // A pipe that nobody opens would be waited for.
+    let mut reader = bench.through("timeout", "10 cat pipe");
     let reader = reader.stdout(Stdio::piped()).spawn().expect("cat runs");
     bench.over("batch --addresses list --output pipe").ends(0).prints(LEDGER);
     Ran::from(reader.wait_with_output().expect("cat ends")).ends(0).prints(RESULTS);
