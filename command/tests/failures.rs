@@ -323,10 +323,15 @@ fn a_capture_that_changes_during_a_map() {
         let mut command = bench.command(&bench.words("map --svg map.svg"));
         command.stdout(Stdio::piped()).stderr(Stdio::piped());
         let child = command.spawn().expect("the command runs");
-        let mut fifo = OpenOptions::new().write(true).open(bench.path("guest.registers")).expect("the registers");
+        // Opened only once the command opens it too, and not waited for if it never does.
+        let mut writer = bench.through("timeout", "10 sh -c");
+        writer.arg("exec 3>guest.registers; echo open; cat >&3").stdin(Stdio::piped()).stdout(Stdio::piped());
+        let mut writer = writer.spawn().expect("sh runs");
+        let mut opened = [0; 4];
+        writer.stdout.take().expect("its output").read_exact(&mut opened).expect("the command opens the registers");
         change(&bench);
-        fifo.write_all(registers.as_bytes()).expect("registers");
-        drop(fifo);
+        writer.stdin.take().expect("its input").write_all(registers.as_bytes()).expect("registers");
+        assert!(writer.wait().expect("sh ends").success());
         Ran::from(child.wait_with_output().expect("the command ends")).ends(3).prints("").says(CHANGED);
         assert!(!bench.path("map.svg").exists());
     }
