@@ -323,10 +323,15 @@ fn a_capture_that_changes_during_a_map() {
         let mut command = bench.command(&bench.words("map --svg map.svg"));
         command.stdout(Stdio::piped()).stderr(Stdio::piped());
         let child = command.spawn().expect("the command runs");
-        let mut fifo = OpenOptions::new().write(true).open(bench.path("guest.registers")).expect("the registers");
+        // Opened only once the command opens it too, and not waited for if it never does.
+        let mut writer = bench.through("timeout", "10 sh -c");
+        writer.arg("exec 3>guest.registers; echo open; cat >&3").stdin(Stdio::piped()).stdout(Stdio::piped());
+        let mut writer = writer.spawn().expect("sh runs");
+        let mut opened = [0; 4];
+        writer.stdout.take().expect("its output").read_exact(&mut opened).expect("the command opens the registers");
         change(&bench);
-        fifo.write_all(registers.as_bytes()).expect("registers");
-        drop(fifo);
+        writer.stdin.take().expect("its input").write_all(registers.as_bytes()).expect("registers");
+        assert!(writer.wait().expect("sh ends").success());
         Ran::from(child.wait_with_output().expect("the command ends")).ends(3).prints("").says(CHANGED);
         assert!(!bench.path("map.svg").exists());
     }
@@ -435,7 +440,8 @@ fn an_output_through_a_link() {
 fn an_output_that_is_a_pipe() {
     let bench = bench();
     assert!(bench.through("mkfifo", "pipe").status().expect("mkfifo runs").success());
-    let mut reader = bench.through("cat", "pipe");
+    // A pipe that nobody opens would be waited for.
+    let mut reader = bench.through("timeout", "10 cat pipe");
     let reader = reader.stdout(Stdio::piped()).spawn().expect("cat runs");
     bench.over("batch --addresses list --output pipe").ends(0).prints(LEDGER);
     Ran::from(reader.wait_with_output().expect("cat ends")).ends(0).prints(RESULTS);
