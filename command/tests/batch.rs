@@ -1,7 +1,7 @@
 //! `humpelkaas batch`: results, ledger and exit status, for lists of any length.
 mod common;
 
-use common::{Bench, Memory, Ran, Registers};
+use common::{Bench, Memory, Ran, Registers, COMMAND};
 use serde_json::{json, Value};
 use std::io::Write;
 use std::process::{Child, Stdio};
@@ -207,6 +207,16 @@ fn two_million_addresses() {
         assert_eq!(told["answer"]["number"].to_string(), fields[1], "{line}");
         assert_eq!(told["answer"]["address"].as_str().unwrap_or("0x0"), fields[2], "{line}");
     }
+}
+
+/// On a terminal a batch shows how far it is, at what rate and how long it will take. Elsewhere it shows nothing, which other tests hold.
+#[test]
+fn progress_on_a_terminal() {
+    let bench = Bench::cases();
+    bench.write("list", "0x1008\n".repeat(4_000_000));
+    let mut terminal = bench.through("script", "-qec");
+    terminal.arg(format!("{COMMAND} {}", bench.words("batch --addresses list --output out.csv"))).arg("/dev/null");
+    Ran::of(terminal).ends(0).shows(&[" % ", " addresses, ", " a second, ", " left", "asked 4000000 translated 4000000"]);
 }
 
 /// The file gives the same as a pipe does, on any number of cores.
