@@ -5,6 +5,7 @@ ghost use Prim.Native.Nat.{_%_};
 ghost use Rattle.access.specs.Access as Accesses;
 
 // One access by a guest. The numbers are the caller's: kind 0 reads, 1 writes, 2 fetches; el is 0 or 1; size is in bytes.
+// It has C's layout: the exported calls take it.
 #[repr(C)]
 pub struct Access {
     pub address: u64,

@@ -6,7 +6,7 @@ ghost use Rattle.ledger.specs.Ledger as Ledgers;
 
 pub mod line;
 
-// How many addresses a batch asked, and how many answers of each sort it had.
+// How many addresses a batch asked, and how many answers of each sort it had. It has C's layout: the exported calls take and give it.
 #[repr(C)]
 pub struct Ledger {
     pub asked: u64,

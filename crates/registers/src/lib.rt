@@ -1,4 +1,4 @@
-// Registers of the Non-secure EL1&0 regime, and PAMax.
+// Registers of the Non-secure EL1&0 regime, and PAMax. They have C's layout: the exported calls take them.
 use hcr::Hcr;
 use sctlr::Sctlr;
 use tcr::Tcr;
