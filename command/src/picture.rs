@@ -17,6 +17,8 @@ const MANY: usize = 300;
 const THIN: f64 = 3.0;
 const LABEL: f64 = 11.0;
 const LINE: f64 = 15.0;
+const TITLE: &str = "Physical memory, as stage 2 gives it to guests";
+const TITLE_WIDTH: f64 = 470.0;
 /// The width of a letter, about.
 const LETTER: f64 = 7.5;
 
@@ -187,7 +189,7 @@ pub fn svg(guests: &[Guest], findings: &[Finding]) -> String {
     let scale = scale(guests, findings);
     let mut picture = Picture { svg: String::new(), bottom: scale.bottom(), scale };
     let columns = COLUMN * guests.len() as f64;
-    picture.text(16.0, 26.0, r#"font-size="16" font-weight="bold""#, "Physical memory, as stage 2 gives it to guests");
+    picture.text(16.0, 26.0, r#"font-size="16" font-weight="bold""#, TITLE);
     picture.addresses();
     for finding in findings {
         picture.behind(finding, columns);
@@ -213,7 +215,8 @@ pub fn svg(guests: &[Guest], findings: &[Finding]) -> String {
     picture.text(16.0, bottom, r##"fill="#555""##, &said);
     let longest = |lengths: &mut dyn Iterator<Item = usize>| LETTER * lengths.max().unwrap_or(0) as f64;
     let beside = LEFT + columns + 30.0 + longest(&mut findings.iter().map(|finding| finding.to_string().len()));
-    let (width, height) = (beside.max(32.0 + longest(&mut missing.iter().map(String::len))), bottom + 24.0);
+    let below = 32.0 + longest(&mut missing.iter().map(String::len));
+    let (width, height) = (beside.max(below).max(TITLE_WIDTH), bottom + 24.0);
     format!(
         r#"<svg xmlns="http://www.w3.org/2000/svg" width="{width:.0}" height="{height:.0}" viewBox="0 0 {width:.0} {height:.0}" font-family="sans-serif" font-size="12">
 <rect width="100%" height="100%" fill="white"/>
