@@ -174,6 +174,7 @@ pub fn run(ask: &Ask, out: &mut dyn Write) -> Result<Status, Trouble> {
             "reads": told.reads.len(),
             "steps": steps_json(&steps, &told.answer),
             "out_of_scope": beyond,
+            "warning": scope::words(&beyond),
         });
         format!("{whole:#}\n")
     } else {

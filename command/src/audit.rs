@@ -136,6 +136,7 @@ fn answer_json(answer: &AuditAnswer, maps: Option<&Maps>, out_of_scope: &[&str])
         "what_to_do": what_to_do,
         "entry": maps.map(Maps::json),
         "out_of_scope": out_of_scope,
+        "warning": scope::words(out_of_scope),
     })
 }
 

@@ -24,6 +24,7 @@ struct Question<'a> {
     access: Access,
     format: Format,
     out_of_scope: &'a [&'static str],
+    warning: Option<&'a str>,
 }
 
 /// One result, as a line of JSON.
@@ -34,6 +35,8 @@ struct Line<'a> {
     output: String,
     #[serde(skip_serializing_if = "<[_]>::is_empty")]
     out_of_scope: &'a [&'static str],
+    #[serde(skip_serializing_if = "Option::is_none")]
+    warning: Option<&'a str>,
 }
 
 /// What became of a block.
@@ -63,8 +66,8 @@ impl Question<'_> {
 
     fn json(&self, addresses: &[u64], entries: &Entries, text: &mut Vec<u8>) {
         for ((address, number), output) in addresses.iter().zip(&entries.numbers).zip(&entries.outputs) {
-            let line =
-                Line { address: format!("{address:#x}"), answer: *number, output: format!("{output:#x}"), out_of_scope: self.out_of_scope };
+            let (address, output) = (format!("{address:#x}"), format!("{output:#x}"));
+            let line = Line { address, answer: *number, output, out_of_scope: self.out_of_scope, warning: self.warning };
             let _ = serde_json::to_writer(&mut *text, &line);
             text.push(b'\n');
         }
@@ -134,6 +137,7 @@ pub fn run(arguments: &Batch, out: &mut dyn Write) -> Result<Status, Trouble> {
     let registers = registers::read(&arguments.guest.registers)?;
     let out_of_scope = scope::bits(&registers);
     scope::warn(&out_of_scope);
+    let warning = scope::words(&out_of_scope);
     let mut addresses = Addresses::open(&arguments.addresses)?;
     let capture = CaptureFile::read(&arguments.memory.capture, arguments.memory.base)?;
     let question = Question {
@@ -142,6 +146,7 @@ pub fn run(arguments: &Batch, out: &mut dyn Write) -> Result<Status, Trouble> {
         access: arguments.manner.access(),
         format: arguments.format,
         out_of_scope: &out_of_scope,
+        warning: warning.as_deref(),
     };
     // A refusal does not depend on the addresses: it is known before anything is written.
     if let Err(refusal) = question.answer(&[], &mut Entries::default()) {

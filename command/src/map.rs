@@ -131,6 +131,7 @@ fn all_json(guests: &[Guest], findings: &[Finding], out_of_scope: &[String]) -> 
         "guests": guests.iter().map(guest_json).collect::<Vec<_>>(),
         "findings": findings.iter().map(finding).collect::<Vec<_>>(),
         "out_of_scope": out_of_scope,
+        "warning": scope::words(out_of_scope),
     })
 }
 

@@ -21,12 +21,15 @@ pub fn bits(registers: &Registers) -> Vec<&'static str> {
     BITS.iter().filter(|(_, bit, of)| of(registers) >> bit & 1 == 1).map(|(name, ..)| *name).collect()
 }
 
-/// Says on the error stream which those are.
+/// Which those are, and what it means for the answers, if any are set.
+pub fn words<T: Borrow<str>>(bits: &[T]) -> Option<String> {
+    let named = bits.join(", ");
+    (!bits.is_empty()).then(|| format!("set and out of scope: {named}: answers are those of Arm's first edition, which has none of these"))
+}
+
+/// Says so on the error stream.
 pub fn warn<T: Borrow<str>>(bits: &[T]) {
-    if !bits.is_empty() {
-        say(&format!(
-            "warning: set and out of scope: {}: answers are those of Arm's first edition, which has none of these",
-            bits.join(", ")
-        ));
+    if let Some(words) = words(bits) {
+        say(&format!("warning: {words}"));
     }
 }

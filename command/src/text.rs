@@ -22,8 +22,10 @@ impl Text {
         let bytes = std::fs::read(path).map_err(|error| trouble::file("read", path, error))?;
         let text = String::from_utf8(bytes).map_err(|error| {
             let valid = error.utf8_error().valid_up_to();
-            let line = 1 + error.as_bytes()[..valid].iter().filter(|byte| **byte == b'\n').count();
-            Trouble::Io(format!("{}:{line}: not text: is this the right file?", path.display()))
+            let before = String::from_utf8_lossy(&error.as_bytes()[..valid]);
+            let last = before.rsplit('\n').next().unwrap_or("");
+            let (line, column) = (before.split('\n').count(), 1 + last.chars().count());
+            Trouble::Io(format!("{}:{line}:{column}: not text: is this the right file?", path.display()))
         })?;
         Ok(Text { path: path.to_path_buf(), text })
     }

@@ -109,8 +109,8 @@ fn missing_registers() {
 #[test]
 fn registers_that_are_no_text() {
     let bench = Bench::cases();
-    bench.write("guest.registers", b"PAMAX = 40\n\xff\xfe");
-    bench.over("ask 0x1008").ends(3).prints("").says("humpelkaas: guest.registers:2: not text: is this the right file?\n");
+    bench.write("guest.registers", b"PAMAX = 40\nHCR\xff\xfe");
+    bench.over("ask 0x1008").ends(3).prints("").says("humpelkaas: guest.registers:2:4: not text: is this the right file?\n");
 }
 
 #[test]
@@ -265,11 +265,13 @@ fn bits_out_of_scope() {
             if !verb.starts_with("batch") {
                 let json = bench.over(&format!("{verb} --json")).ends(0).says(&said).json();
                 assert_eq!(json["out_of_scope"], json!(names));
+                assert_eq!(said, format!("humpelkaas: warning: {}\n", json["warning"].as_str().expect("words")));
             }
         }
         let ran = bench.over("batch --addresses list --format json").ends(0);
         let line: serde_json::Value = serde_json::from_str(ran.first_line()).expect("a line of JSON");
         assert_eq!(line["out_of_scope"], json!(names));
+        assert_eq!(ran.stderr, format!("humpelkaas: warning: {}\n", line["warning"].as_str().expect("words")));
     }
 }
 

@@ -141,6 +141,7 @@ fn the_sample_in_json() {
         ],
         "findings": [],
         "out_of_scope": [],
+        "warning": null,
     });
     assert_eq!(json, expected);
 }
