@@ -35,8 +35,8 @@ use Rattle.stages.proofs.Counts.{tight-access}
 use Rattle.registers.specs.Tcr
 use Rattle.registers.specs.Vtcr
 use Rattle.settings.specs.Settings.{stage1On, stage2On, settings}
-use Rattle.level.specs.Level.{fourK, inputSize, start1, start2, levelsBelow}
-use Rattle.regime.specs.Roots.{rangeOf, root2, stage1, stage2}
+use Rattle.level.specs.Level.{fourK, start1, start2, levelsBelow}
+use Rattle.regime.specs.Roots.{geometry1, rangeOf, root2, stage1, stage2}
 use Rattle.registers.specs.declared.El1.{El1}
 use Rattle.registers.specs.declared.El2.{El2}
 use Rattle.regime.specs.Calls.{Sized}
@@ -86,20 +86,20 @@ start1-levels s output h =
     let below : p .0 ≤ 3 = omega (arith, p .1) in
     levels-from (start1 (fourK s output)) (p .0) below (p .2)
 
-range-levels : (ips tnsz : ℕ) (epd : Bool) (ttbr : ℕ) → (epd ≡ false → Sized (inputSize tnsz)) →
-    (HasLevels (rangeLevels ips tnsz epd) (rangeOf ips tnsz epd ttbr .root)) × (rangeLevels ips tnsz epd ≤ 4)
-range-levels ips tnsz epd ttbr sized = (
-  by-range (HasLevels (rangeLevels ips tnsz epd)) (λ k l. tt) ips tnsz epd ttbr (λ e. start1-levels _ _ (sized e) .0 ∙ sym (pick-false epd 0 _ e)),
+range-levels : (s output : ℕ) (epd : Bool) (ttbr : ℕ) → (epd ≡ false → Sized s) →
+    let g = fourK s output in (HasLevels (rangeLevels g epd) (rangeOf g epd ttbr .root)) × (rangeLevels g epd ≤ 4)
+range-levels s output epd ttbr sized = (
+  by-range (HasLevels (rangeLevels (fourK s output) epd)) (λ k l. tt) (fourK s output) epd ttbr (λ e. start1-levels _ _ (sized e) .0 ∙ sym (pick-false epd 0 _ e)),
   by-pick (λ n. n ≤ 4) epd 0 _ (λ _. omega arith) (λ e. start1-levels _ _ (sized e) .1),
 )
 
 -- accepted settings bound the levels of the VA range that an address picks
 module _ (r : El2) (g : El1) (a : ℕ) (accepted : settings r g ≡ 0) (on : stage1On r g ≡ true) where
   abbrev lower : ℕ
-  lower = rangeLevels (Tcr.ips (g .tcr)) (Tcr.t0sz (g .tcr)) (Tcr.epd0 (g .tcr))
+  lower = rangeLevels (geometry1 r g (Tcr.t0sz (g .tcr))) (Tcr.epd0 (g .tcr))
 
   abbrev upper : ℕ
-  upper = rangeLevels (Tcr.ips (g .tcr)) (Tcr.t1sz (g .tcr)) (Tcr.epd1 (g .tcr))
+  upper = rangeLevels (geometry1 r g (Tcr.t1sz (g .tcr))) (Tcr.epd1 (g .tcr))
 
   root1-levels : HasLevels (pick (isUpper (stage1 r g) a) upper lower) (root1At (stage1 r g) a)
   unfolding stage1

@@ -17,8 +17,9 @@ use Rattle.answers.specs.declared.Answer.the-variants.{Translated, Refus
 use Rattle.registers.specs.Tcr
 use Rattle.registers.specs.Vtcr
 use Rattle.settings.specs.Settings.{stage1On, stage2On}
-use Rattle.level.specs.Level.{fourK, inputSize, outputSize, start1, start2}
-use Rattle.regime.specs.Roots.{stage1}
+use Rattle.descriptor.specs.declared.entry.Geometry.{Geometry}
+use Rattle.level.specs.Level.{start1, start2}
+use Rattle.regime.specs.Roots.{geometry1, stage1}
 use Rattle.registers.specs.declared.El1.{El1}
 use Rattle.registers.specs.declared.El2.{El2}
 use Rattle.answers.specs.Question.{Told, refusal, ask}
@@ -29,16 +30,16 @@ levelsFrom (pos l) = 4 - l
 levelsFrom (negsuc l) = 5 + l
 
 -- the levels of a VA range, 0 where it is disabled
-abbrev pub rangeLevels : (ips tnsz : ℕ) (epd : Bool) → ℕ
-rangeLevels ips tnsz epd = pick epd 0 (levelsFrom (start1 (fourK (inputSize tnsz) (outputSize ips))))
+abbrev pub rangeLevels : Geometry → (epd : Bool) → ℕ
+rangeLevels g epd = pick epd 0 (levelsFrom (start1 g))
 
 -- n1: 0 with stage 1 off or the address's VA range disabled
 abbrev pub n1 : El2 → El1 → (address : ℕ) → ℕ
 n1 r g a =
     pick (stage1On r g)
     (pick (isUpper (stage1 r g) a)
-    (rangeLevels (Tcr.ips (g .tcr)) (Tcr.t1sz (g .tcr)) (Tcr.epd1 (g .tcr)))
-    (rangeLevels (Tcr.ips (g .tcr)) (Tcr.t0sz (g .tcr)) (Tcr.epd0 (g .tcr))))
+    (rangeLevels (geometry1 r g (Tcr.t1sz (g .tcr))) (Tcr.epd1 (g .tcr)))
+    (rangeLevels (geometry1 r g (Tcr.t0sz (g .tcr))) (Tcr.epd0 (g .tcr))))
     0
 
 abbrev pub n2 : El2 → ℕ

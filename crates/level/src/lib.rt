@@ -41,9 +41,9 @@ fn strides(size: u64) -> u64
     (less(size, 12) + 8) / 9
 }
 
-// The bits of stage 2's root index, below 1 where the start level is too high for the size.
+// The bits of stage 2's root index, below 1 where the start level is too high for the size. No output size counts.
 pub fn size_check(vtcr: Vtcr) -> i64
-    ensures { λ r. ⌜ r ≡ Level.sizeCheck (Level.fourK (Level.inputSize (VtcrFields.t0sz vtcr)) (Level.outputSize (VtcrFields.ps vtcr))) (Level.start2 (VtcrFields.sl0 vtcr)) ⌝ }
+    ensures { λ r. ⌜ ((output : ℕ) → r ≡ Level.sizeCheck (Level.fourK (Level.inputSize (VtcrFields.t0sz vtcr)) output) (Level.start2 (VtcrFields.sl0 vtcr))) ⌝ }
 {
     let size = (64 - vtcr.t0sz()) as i64;
     let start = start2(vtcr);

@@ -8,9 +8,10 @@ use native.Mathlib.Omega.{arith}
 use lib.IntN.{ℤ, pos}
 use lib.Signed.{ltZ}
 use Rattle.bits.specs.Bits.{pick}
+use Rattle.descriptor.specs.declared.entry.Geometry.{Geometry}
 use Rattle.registers.specs.Vtcr
-use Rattle.level.specs.Level.{fourK, inputSize, outputSize, start1, start2, sizeCheck, levelsBelow}
-use Rattle.regime.specs.Roots.{tableOf, rangeOf}
+use Rattle.level.specs.Level.{fourK, start1, start2, sizeCheck, levelsBelow}
+use Rattle.regime.specs.Roots.{geometry2, tableOf, rangeOf}
 use Rattle.registers.specs.declared.El2.{El2}
 use Rattle.regime.specs.Calls.{Sized}
 use Rattle.regime.proofs.Roots.{start1-is, start2-most, not-negative, start2-bits}
@@ -38,21 +39,21 @@ small-from s output register start l h e bits =
     subst (λ z. Small (tableOf (fourK s output) (levelsBelow z) register)) (sym e) (small-table s output (3 - l) register (omega arith) bits)
 
 -- a VA range of an accepted size
-pub small1 : (ips tnsz ttbr : ℕ) → Sized (inputSize tnsz) → (let g = fourK (inputSize tnsz) (outputSize ips) in Small (tableOf g (levelsBelow (start1 g)) ttbr))
-small1 ips tnsz ttbr sized =
-    let p = start1-is (inputSize tnsz) (outputSize ips) sized in
+pub small1 : (s output ttbr : ℕ) → Sized s → (let g = fourK s output in Small (tableOf g (levelsBelow (start1 g)) ttbr))
+small1 s output ttbr sized =
+    let p = start1-is s output sized in
     small-from _ _ ttbr _ (p .0) (p .1) (p .2) (omega (arith, p .3))
 
-pub narrow1 : (ips tnsz : ℕ) (epd : Bool) (ttbr : ℕ) → (epd ≡ false → Sized (inputSize tnsz)) → Narrow (rangeOf ips tnsz epd ttbr)
+pub narrow1 : (g : Geometry) (epd : Bool) (ttbr : ℕ) → (epd ≡ false → Sized (g .inputsize)) → Narrow (rangeOf g epd ttbr)
 unfolding pick
-narrow1 ips tnsz true ttbr h = disabled refl
-narrow1 ips tnsz false ttbr h = limited (h refl .most)
+narrow1 g true ttbr h = disabled refl
+narrow1 g false ttbr h = limited (h refl .most)
 
 -- stage 2 from a start level that is not negative, with at most 13 index bits
 pub small2 : (r : El2) →
-    (let g = fourK (inputSize (Vtcr.t0sz (r .vtcr))) (outputSize (Vtcr.ps (r .vtcr))) in let start = start2 (Vtcr.sl0 (r .vtcr)) in
+    (let g = geometry2 r in let start = start2 (Vtcr.sl0 (r .vtcr)) in
     ltZ start (pos 0) ≡ false → ltZ (pos 13) (sizeCheck g start) ≡ false → Small (tableOf g (levelsBelow start) (r .vttbr)))
 small2 r some few =
     let p = not-negative (start2 (Vtcr.sl0 (r .vtcr))) some in
     let h = start2-most r (p .0) (p .1) in
-    small-from _ _ (r .vttbr) _ (p .0) h (p .1) (start2-bits _ (outputSize (Vtcr.ps (r .vtcr))) (p .0) h (rw (p .1) at few))
+    small-from _ _ (r .vttbr) _ (p .0) h (p .1) (start2-bits _ (geometry2 r .outputsize) (p .0) h (rw (p .1) at few))

@@ -20,8 +20,8 @@ use Rattle.stages.specs.declared.stage1.VaRange.{VaRange}
 use Rattle.stages.specs.declared.stage1.Stage1.{Stage1}
 use Rattle.stages.proofs.Accesses.{Aligned, upper-aligned}
 use Rattle.registers.specs.Vtcr
-use Rattle.level.specs.Level.{fourK, inputSize, outputSize, start1, start2, sizeCheck, levelsBelow}
-use Rattle.regime.specs.Roots.{tableOf, rootOf, rangeOf, root2, stage1}
+use Rattle.level.specs.Level.{fourK, start1, start2, sizeCheck, levelsBelow}
+use Rattle.regime.specs.Roots.{geometry2, tableOf, rootOf, rangeOf, root2, stage1}
 use Rattle.registers.specs.declared.El1.{El1}
 use Rattle.registers.specs.declared.El2.{El2}
 use Rattle.regime.specs.Calls.{Sized}
@@ -85,10 +85,8 @@ module _ (Q : Root → Type 0) (unusable : (k : FaultKind) (l : ℕ) → Q (Unus
   by-rootOf g n register h = by-pick Q (beyond register (g .outputsize)) (Unusable _ _) _ (λ _. unusable _ _) (λ _. h)
 
   -- a VA range of stage 1 that is not disabled
-  pub by-range : (ips tnsz : ℕ) (epd : Bool) (ttbr : ℕ) →
-      (let g = fourK (inputSize tnsz) (outputSize ips) in epd ≡ false → Q (Usable (tableOf g (levelsBelow (start1 g)) ttbr))) →
-      Q (rangeOf ips tnsz epd ttbr .root)
-  by-range ips tnsz epd ttbr h = by-pick Q epd (Unusable _ _) _ (λ _. unusable _ _) (λ e. by-rootOf _ _ _ (h e))
+  pub by-range : (g : Geometry) (epd : Bool) (ttbr : ℕ) → (epd ≡ false → Q (Usable (tableOf g (levelsBelow (start1 g)) ttbr))) → Q (rangeOf g epd ttbr .root)
+  by-range g epd ttbr h = by-pick Q epd (Unusable _ _) _ (λ _. unusable _ _) (λ e. by-rootOf _ _ _ (h e))
 
   -- stage 1's root for an address, by its VA range
   pub by-root1At : (s : Stage1) (a : ℕ) → (isUpper s a ≡ true → Q (s .upper .root)) → (isUpper s a ≡ false → Q (s .lower .root)) → Q (root1At s a)
@@ -97,7 +95,7 @@ module _ (Q : Root → Type 0) (unusable : (k : FaultKind) (l : ℕ) → Q (Unus
 
   -- stage 2's root, from a start level that is not negative, with few index bits
   pub by-root2 : (r : El2) →
-      (let g = fourK (inputSize (Vtcr.t0sz (r .vtcr))) (outputSize (Vtcr.ps (r .vtcr))) in let start = start2 (Vtcr.sl0 (r .vtcr)) in
+      (let g = geometry2 r in let start = start2 (Vtcr.sl0 (r .vtcr)) in
       (l : ℕ) → start ≡ pos l → ltZ (pos 13) (sizeCheck g start) ≡ false → Q (Usable (tableOf g (levelsBelow start) (r .vttbr)))) → Q (root2 r)
   unfolding root2
   by-root2 r h =
@@ -123,8 +121,8 @@ root2-sane r = by-root2 Sane (λ k l. tt) r (λ l e _. (omega arith, suc-le-suc 
 
 -- ---- alignment
 
-range-aligned : (ips tnsz : ℕ) (epd : Bool) (ttbr : ℕ) → Aligned (rangeOf ips tnsz epd ttbr .root)
-range-aligned ips tnsz epd ttbr = by-range Aligned (λ k l. tt) ips tnsz epd ttbr (λ _. (upper-aligned ttbr _, λ x. upper-aligned x 9))
+range-aligned : (s output : ℕ) (epd : Bool) (ttbr : ℕ) → Aligned (rangeOf (fourK s output) epd ttbr .root)
+range-aligned s output epd ttbr = by-range Aligned (λ k l. tt) (fourK s output) epd ttbr (λ _. (upper-aligned ttbr _, λ x. upper-aligned x 9))
 
 pub root1-aligned : (r : El2) (g : El1) (a : ℕ) → Aligned (root1At (stage1 r g) a)
 unfolding stage1

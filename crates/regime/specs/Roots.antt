@@ -24,6 +24,16 @@ use Rattle.settings.specs.Settings.{stage1On, stage2On}
 use Rattle.registers.specs.declared.El1.{El1}
 use Rattle.registers.specs.declared.El2.{El2}
 
+-- ---- geometries
+
+-- of a VA range of stage 1, by its size field
+abbrev pub geometry1 : El2 → El1 → (tnsz : ℕ) → Geometry
+geometry1 r g tnsz = fourK (inputSize tnsz) (outputSize (Tcr.ips (g .tcr)))
+
+-- of stage 2
+abbrev pub geometry2 : El2 → Geometry
+geometry2 r = fourK (inputSize (Vtcr.t0sz (r .vtcr))) (outputSize (Vtcr.ps (r .vtcr)))
+
 -- ---- roots
 
 -- the root table at a base register, with n levels below it.
@@ -36,16 +46,14 @@ tableOf g n register =
 unfoldable pub rootOf : Geometry → (n register : ℕ) → Root
 rootOf g n register = pick (beyond register (g .outputsize)) (Unusable AddressSize 0) (Usable (tableOf g n register))
 
--- a VA range of stage 1, by its size field, EPD and TTBR (01, Walk, input size)
-abbrev pub rangeOf : (ips tnsz : ℕ) (epd : Bool) (ttbr : ℕ) → VaRange
-rangeOf ips tnsz epd ttbr =
-    let g = fourK (inputSize tnsz) (outputSize ips) in
-    record { inputsize = inputSize tnsz; root = pick epd (Unusable Translation 0) (rootOf g (levelsBelow (start1 g)) ttbr) }
+-- a VA range of stage 1, by its geometry, EPD and TTBR (01, Walk, input size)
+abbrev pub rangeOf : Geometry → (epd : Bool) (ttbr : ℕ) → VaRange
+rangeOf g epd ttbr = record { inputsize = g .inputsize; root = pick epd (Unusable Translation 0) (rootOf g (levelsBelow (start1 g)) ttbr) }
 
 -- stage 2 (01, Walk, start level) starts at no level below 0, at level 0 only where PAMax is over 42, and with 1 to 13 index bits
 unfoldable pub root2 : El2 → Root
 root2 r =
-    let g = fourK (inputSize (Vtcr.t0sz (r .vtcr))) (outputSize (Vtcr.ps (r .vtcr))) in
+    let g = geometry2 r in
     let start = start2 (Vtcr.sl0 (r .vtcr)) in
     pick (ltZ start (pos 0)) (Unusable Translation 0)
     (pick (ltZ start (pos 1) && leb (r .pamax) 42) (Unusable Translation 0)
@@ -63,8 +71,8 @@ stage1 r g =
       dc = Hcr.dc (r .hcr);
       tbi0 = Tcr.tbi0 (g .tcr);
       tbi1 = Tcr.tbi1 (g .tcr);
-      lower = rangeOf (Tcr.ips (g .tcr)) (Tcr.t0sz (g .tcr)) (Tcr.epd0 (g .tcr)) (g .ttbr0);
-      upper = rangeOf (Tcr.ips (g .tcr)) (Tcr.t1sz (g .tcr)) (Tcr.epd1 (g .tcr)) (g .ttbr1);
+      lower = rangeOf (geometry1 r g (Tcr.t0sz (g .tcr))) (Tcr.epd0 (g .tcr)) (g .ttbr0);
+      upper = rangeOf (geometry1 r g (Tcr.t1sz (g .tcr))) (Tcr.epd1 (g .tcr)) (g .ttbr1);
       mair = g .mair;
       c = Sctlr.c (g .sctlr);
       i = Sctlr.i (g .sctlr);

@@ -99,16 +99,16 @@ fn upper_half(g: El1, wanted: bool) -> Half
 }
 
 // The start of a VA range.
-fn start1(ips: u64, h: Half) -> Start
+fn start1(output: u64, h: Half) -> Start
     requires { ⌜ (h .tnsz < 64) × (h .epd ≡ false → Sized (inputSize (h .tnsz))) ⌝ }
-    ensures { λ r. ⌜ Starts r (Roots.rangeOf ips (h .tnsz) (h .epd) (h .ttbr) .root) ⌝ }
+    ensures { λ r. ⌜ Starts r (Roots.rangeOf (fourK (inputSize (h .tnsz)) output) (h .epd) (h .ttbr) .root) ⌝ }
 {
     let tnsz = h.tnsz;
     if h.epd {
         return start::nowhere(Ending::Translation, 0);
     }
     let n = level::below_start1(tnsz);
-    start_from(64 - tnsz, level::output_size(ips), n, h.ttbr)
+    start_from(64 - tnsz, output, n, h.ttbr)
 }
 
 // Stage 1 for walks, with the VA ranges that are wanted. With stage 1 off there is no walk.
@@ -120,7 +120,7 @@ pub fn prepared1(r: El2, g: El1, lower: bool, upper: bool) -> Prepared1
     let hcr = r.hcr;
     let tcr = g.tcr;
     let sctlr = g.sctlr;
-    let ips = tcr.ips();
+    let output = level::output_size(tcr.ips());
     let low = lower_half(g, on & lower);
     let high = upper_half(g, on & upper);
     let size0 = 64 - low.tnsz;
@@ -132,8 +132,8 @@ pub fn prepared1(r: El2, g: El1, lower: bool, upper: bool) -> Prepared1
         bounds: range::bounds_of(tcr.tbi0(), tcr.tbi1(), size0, size1, r.pamax),
         size0,
         size1,
-        lower: start1(ips, low),
-        upper: start1(ips, high),
+        lower: start1(output, low),
+        upper: start1(output, high),
         mair: g.mair,
         c: sctlr.c(),
         i: sctlr.i(),

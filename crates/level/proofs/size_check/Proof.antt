@@ -22,4 +22,4 @@ size-check-spec =
     (λ c. checks 64 _ (c .start2 .result) (omega arith) (mod-lt _ (omega arith)) (c .start2 .ensures) .strides)
     (λ c. checks 64 _ (c .start2 .result) (omega arith) (mod-lt _ (omega arith)) (c .start2 .ensures) .bits)
     (λ c. checks (64 - c .before .t0sz .result) _ (c .start2 .result) (omega arith) (mod-lt _ (omega arith)) (c .start2 .ensures) .left)
-    (λ c. checks (64 - c .before .t0sz .result) _ (c .start2 .result) (omega arith) (mod-lt _ (omega arith)) (c .start2 .ensures) .is ∙ cc))
+    (λ c output. checks (64 - c .before .t0sz .result) _ (c .start2 .result) (omega arith) (mod-lt _ (omega arith)) (c .start2 .ensures) .is ∙ cc))

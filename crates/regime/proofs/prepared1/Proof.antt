@@ -3,10 +3,12 @@
 use borrow.Author.Needs.{needs}
 use mathlib.Core.Path.{_≡_}
 use mathlib.Core.Bool.{false}
+use Prim.Native.Nat.{ℕ}
 use native.Mathlib.Omega.{arith}
+use Rattle.descriptor.specs.declared.entry.Geometry.{Geometry}
 use Rattle.walk.proofs.Ends.{starts-root}
 use Rattle.stages.specs.Ranges.{boundsOf}
-use Rattle.level.specs.Level.{inputSize}
+use Rattle.level.specs.Level.{fourK, inputSize}
 use Rattle.regime.specs.Roots.{rangeOf}
 use Rattle.regime.specs.Calls.{Sized}
 use Rattle.regime.proofs.Settings.{lower-kept, upper-kept, pamax-small}
@@ -17,13 +19,13 @@ use Rattle.regime.proofs.prepared1.Tie as tie
 -- the size of a range that is not left out is accepted
 lower-size : (c : tie.After-upper-half) → c .before .lower-half .result .epd ≡ false → Sized (inputSize (c .before .lower-half .result .tnsz))
 lower-size c e =
-    let k = c .before .before .before .before .before .before in
+    let k = c .before .before .before .before .before .before .before in
     let w = c .before .lower-half .ensures in
     rw (w .0) (lower-kept _ _ (k .before .pre) _ (k .stage1-on .ensures) (rw (w .1) at e))
 
 upper-size : (c : tie.After-upper-half) → c .upper-half .result .epd ≡ false → Sized (inputSize (c .upper-half .result .tnsz))
 upper-size c e =
-    let k = c .before .before .before .before .before .before in
+    let k = c .before .before .before .before .before .before .before in
     let w = c .upper-half .ensures in
     rw (w .0) (upper-kept _ _ (k .before .pre) _ (k .stage1-on .ensures) (rw (w .1) at e))
 
@@ -43,11 +45,11 @@ returns c =
     let s = c .before .before .before in
     let b = s .before .before in
     let h = b .before .before .before .before .before .before in
-    let ips = h .before .before .ips .result in
     let low = h .before .lower-half .result in
     let high = h .upper-half .result in
-    let root0 = starts-root (s .before .start1 .result) (rangeOf ips (low .tnsz) (low .epd) (low .ttbr) .root) (s .before .start1 .ensures) in
-    let root1 = starts-root (s .start12 .result) (rangeOf ips (high .tnsz) (high .epd) (high .ttbr) .root) (s .start12 .ensures) in (
+    let geometry : ℕ → Geometry = λ tnsz. fourK (inputSize tnsz) (h .before .before .output-size .result) in
+    let root0 = starts-root (s .before .start1 .result) (rangeOf (geometry (low .tnsz)) (low .epd) (low .ttbr) .root) (s .before .start1 .ensures) in
+    let root1 = starts-root (s .start12 .result) (rangeOf (geometry (high .tnsz)) (high .epd) (high .ttbr) .root) (s .start12 .ensures) in (
       rw (
         root0,
         root1,
@@ -64,14 +66,15 @@ returns c =
         h .upper-half .ensures .0,
         h .upper-half .ensures .1,
         h .upper-half .ensures .2,
-        h .before .before .ips .ensures,
-        h .before .before .before .before .before .before .stage1-on .ensures,
+        h .before .before .output-size .ensures,
+        h .before .before .before .ips .ensures,
+        h .before .before .before .before .before .before .before .stage1-on .ensures,
       ),
       record {
         bounds = rw (b .bounds-of .ensures);
-        pamax = pamax-small _ _ (h .before .before .before .before .before .before .before .pre);
-        lower = λ on. (rw root0 (s .before .start1 .ensures), rw root0 (narrow1 ips (low .tnsz) (low .epd) (low .ttbr) (lower-size h)));
-        upper = λ on. (rw root1 (s .start12 .ensures), rw root1 (narrow1 ips (high .tnsz) (high .epd) (high .ttbr) (upper-size h)));
+        pamax = pamax-small _ _ (h .before .before .before .before .before .before .before .before .pre);
+        lower = λ on. (rw root0 (s .before .start1 .ensures), rw root0 (narrow1 (geometry (low .tnsz)) (low .epd) (low .ttbr) (lower-size h)));
+        upper = λ on. (rw root1 (s .start12 .ensures), rw root1 (narrow1 (geometry (high .tnsz)) (high .epd) (high .ttbr) (upper-size h)));
       },
     )
 
@@ -79,7 +82,7 @@ pub prepared1-spec : {M : Type 1} → statement M
 prepared1-spec =
     tie.close
     (tie.spec
-    (λ c κs. tt) (λ c κs. tt) (λ c κs. tt) (λ c κs. tt)
+    (λ c κs. tt) (λ c κs. tt) (λ c κs. tt) (λ c κs. tt) (λ c κs. tt)
     (λ c. search needs) (λ c. search needs)
     (λ c κs. tt) (λ c κs. tt) (λ c κs. tt) (λ c κs. tt)
     start1-requires

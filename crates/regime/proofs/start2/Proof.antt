@@ -14,8 +14,8 @@ use Rattle.walk.specs.Ends.{faulted}
 use Rattle.walk.specs.declared.table.Root.{Root}
 use Rattle.walk.specs.declared.table.Root.the-variants.{Unusable}
 use Rattle.registers.specs.Vtcr
-use Rattle.level.specs.Level.{fourK, inputSize, outputSize, start2, sizeCheck, levelsBelow}
-use Rattle.regime.specs.Roots.{rootOf, root2}
+use Rattle.level.specs.Level.{start2, sizeCheck, levelsBelow}
+use Rattle.regime.specs.Roots.{geometry2, rootOf, root2}
 use Rattle.registers.specs.declared.El2.{El2}
 use Rattle.level.proofs.Signed.{few-below2, start2-held, check-held}
 use Rattle.regime.proofs.Ready.{small2}
@@ -39,7 +39,7 @@ none-of false false false true e = absurd (true≢false e)
 none-of false false false false e = (refl, refl)
 
 root2-is : (r : El2) →
-    (let g = fourK (inputSize (Vtcr.t0sz (r .vtcr))) (outputSize (Vtcr.ps (r .vtcr))) in
+    (let g = geometry2 r in
     let start = start2 (Vtcr.sl0 (r .vtcr)) in
     let bits = sizeCheck g start in
     pick (ltZ start (pos 0) || (ltZ start (pos 1) && leb (r .pamax) 42) || ltZ bits (pos 1) || ltZ (pos 13) bits) (Unusable Translation 0)
@@ -52,16 +52,18 @@ abbrev startOf : El2 → ℤ
 startOf r = start2 (Vtcr.sl0 (r .vtcr))
 
 abbrev bitsOf : El2 → ℤ
-bitsOf r = sizeCheck (fourK (inputSize (Vtcr.t0sz (r .vtcr))) (outputSize (Vtcr.ps (r .vtcr)))) (startOf r)
+bitsOf r = sizeCheck (geometry2 r) (startOf r)
 
 -- the one test is the definition's four
 tested : (c : tie.After-startless) →
     let r = c .before .before .before .before .args .r in
     c .startless .result ≡ (ltZ (startOf r) (pos 0) || (ltZ (startOf r) (pos 1) && leb (r .pamax) 42) || ltZ (bitsOf r) (pos 1) || ltZ (pos 13) (bitsOf r))
 tested c =
+    let r = c .before .before .before .before .args .r in
     let s = c .before .before .start2 in
     let k = c .before .size-check in
-    cc (start2-held _ (s .result) (mod-lt _ (omega arith)) (s .ensures), check-held _ _ _ (k .result) (omega arith) (mod-lt _ (omega arith)) (k .ensures))
+    let is = k .ensures (geometry2 r .outputsize) in
+    cc (start2-held _ (s .result) (mod-lt _ (omega arith)) (s .ensures), check-held _ _ _ (k .result) (omega arith) (mod-lt _ (omega arith)) is, is)
 
 below : (c : tie.After-levels-below) → c .levels-below .result ≡ levelsBelow (startOf (c .before .before .before .before .before .before .args .r))
 below c =
