@@ -17,7 +17,7 @@ const TABLES: [u64; 2] = [0x4000_1000, 0x4000_2000];
 const LEVELS: [u64; 2] = [2, 3];
 
 // One audit and its answer in a line.
-fn audit(
+pub(crate) fn audit(
     name: &[u8],
     bytes: &[u8],
     base: u64,

@@ -1,4 +1,4 @@
-// Runs the cases of document 01 on the proved question, batch and audit and prints a line for each.
+// Runs the cases of document 01, and the output size of document 02, on the proved question, batch and audit and prints a line for each.
 use access::Access;
 use registers::El1;
 use registers::El2;
@@ -10,6 +10,7 @@ use registers::vtcr::Vtcr;
 mod audits;
 mod image;
 mod print;
+mod sizes;
 
 const BASE: u64 = 0x4000_0000;
 
@@ -48,10 +49,10 @@ fn access(address: u64, kind: u64, el: u64) -> Access {
 }
 
 // One question, its answer and its log in a line.
-fn ask(name: &[u8], bytes: &[u8], r: El2, g: El1, a: Access) {
+fn ask(name: &[u8], bytes: &[u8], base: u64, r: El2, g: El1, a: Access) {
     let mut log = [0u64; 24];
     print::text(name);
-    let answer = question::translate(bytes, BASE, r, g, a, &mut log);
+    let answer = question::translate(bytes, base, r, g, a, &mut log);
     print::answer(answer);
     print::log(&log);
     print::text(b"\n");
@@ -62,7 +63,7 @@ fn ask_with(name: &[u8], at: usize, word: u64, r: El2, g: El1, a: Access) {
     let mut bytes = [0u8; 0x8000];
     image::fill(&mut bytes);
     image::put(&mut bytes, at, word);
-    ask(name, &bytes, r, g, a);
+    ask(name, &bytes, BASE, r, g, a);
 }
 
 // The same with the capture as it is, or cut short.
@@ -70,7 +71,7 @@ fn ask_first(name: &[u8], length: usize, r: El2, g: El1, a: Access) {
     let mut bytes = [0u8; 0x8000];
     image::fill(&mut bytes);
     if length <= 0x8000 {
-        ask(name, &bytes[..length], r, g, a);
+        ask(name, &bytes[..length], BASE, r, g, a);
     }
 }
 
@@ -84,6 +85,7 @@ fn ask_read_only() {
     ask(
         b"A as a write, stage 1 tables read-only at stage 2: ",
         &bytes,
+        BASE,
         el2(VTCR),
         el1(5, TCR),
         access(0x1008, 1, 0),
@@ -97,6 +99,7 @@ fn ask_concatenated() {
     ask(
         b"concatenated root, entry 513: ",
         &bytes,
+        BASE,
         el2(0x2_0058),
         el1(0, 0),
         access(0x80_4000_0008, 0, 0),
@@ -232,4 +235,5 @@ fn main() {
     g_to_l();
     beyond();
     audits::all();
+    sizes::all();
 }

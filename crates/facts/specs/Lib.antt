@@ -2,3 +2,4 @@ pub mod Open
 pub mod Asked
 pub mod Cases
 pub mod Audits
+pub mod OutputSizes

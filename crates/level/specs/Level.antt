@@ -1,14 +1,18 @@
 -- Sizes and start levels (01, Walk).
 -- Assumes nothing.
 use Prim.Native.Nat.{ℕ, _+_, _-_, _/_}
-use lib.Dec.{eqb}
+use lib.Dec.{eqb, leb}
 use lib.IntN.{ℤ, pos, negsuc, _+ℤ_, _-ℤ_, _*ℤ_}
 use Rattle.bits.specs.Bits.{pick}
 use Rattle.descriptor.specs.declared.entry.Geometry.{Geometry}
 
--- the output size of IPS or PS (01, Walk, output size)
-unfoldable pub outputSize : ℕ → ℕ
-outputSize code = pick (eqb code 0) 32 (pick (eqb code 1) 36 (pick (eqb code 2) 40 (pick (eqb code 3) 42 (pick (eqb code 4) 44 48))))
+-- what a code of IPS or PS says of the output size (01, Walk, output size)
+unfoldable pub codedSize : ℕ → ℕ
+codedSize code = pick (eqb code 0) 32 (pick (eqb code 1) 36 (pick (eqb code 2) 40 (pick (eqb code 3) 42 (pick (eqb code 4) 44 48))))
+
+-- the output size: the smaller of PAMax and what IPS or PS says (02, §2)
+unfoldable pub outputSize : (pamax code : ℕ) → ℕ
+outputSize pamax code = pick (leb pamax (codedSize code)) pamax (codedSize code)
 
 -- the 4KB granule: 512 entries a table, blocks from level 1
 abbrev pub fourK : (input output : ℕ) → Geometry

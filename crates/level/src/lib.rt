@@ -5,9 +5,9 @@ ghost use Rattle.registers.specs.Vtcr as VtcrFields;
 ghost use Rattle.level.specs.Level as Level;
 use registers::vtcr::Vtcr;
 
-// The output size of IPS or PS. 6 and 7 are no codes.
-pub fn output_size(code: u64) -> u64
-    ensures { λ r. ⌜ r ≡ Level.outputSize code ⌝ }
+// What IPS or PS says of the output size. 6 and 7 are no codes.
+fn coded_size(code: u64) -> u64
+    ensures { λ r. ⌜ r ≡ Level.codedSize code ⌝ }
 {
     match code {
         0 => 32,
@@ -17,6 +17,14 @@ pub fn output_size(code: u64) -> u64
         4 => 44,
         _ => 48,
     }
+}
+
+// The output size: the smaller of PAMax and what IPS or PS says.
+pub fn output_size(pamax: u64, code: u64) -> u64
+    ensures { λ r. ⌜ r ≡ Level.outputSize pamax code ⌝ }
+{
+    let coded = coded_size(code);
+    if pamax <= coded { pamax } else { coded }
 }
 
 // Stage 2's start level, -1 for an SL0 of 3.

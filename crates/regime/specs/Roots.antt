@@ -28,11 +28,11 @@ use Rattle.registers.specs.declared.El2.{El2}
 
 -- of a VA range of stage 1, by its size field
 abbrev pub geometry1 : El2 → El1 → (tnsz : ℕ) → Geometry
-geometry1 r g tnsz = fourK (inputSize tnsz) (outputSize (Tcr.ips (g .tcr)))
+geometry1 r g tnsz = fourK (inputSize tnsz) (outputSize (r .pamax) (Tcr.ips (g .tcr)))
 
 -- of stage 2
 abbrev pub geometry2 : El2 → Geometry
-geometry2 r = fourK (inputSize (Vtcr.t0sz (r .vtcr))) (outputSize (Vtcr.ps (r .vtcr)))
+geometry2 r = fourK (inputSize (Vtcr.t0sz (r .vtcr))) (outputSize (r .pamax) (Vtcr.ps (r .vtcr)))
 
 -- ---- roots
 

@@ -120,7 +120,7 @@ pub fn prepared1(r: El2, g: El1, lower: bool, upper: bool) -> Prepared1
     let hcr = r.hcr;
     let tcr = g.tcr;
     let sctlr = g.sctlr;
-    let output = level::output_size(tcr.ips());
+    let output = level::output_size(r.pamax, tcr.ips());
     let low = lower_half(g, on & lower);
     let high = upper_half(g, on & upper);
     let size0 = 64 - low.tnsz;
@@ -158,7 +158,12 @@ pub fn start2(r: El2) -> Start
         return start::nowhere(Ending::Translation, 0);
     }
     let n = level::levels_below(start);
-    start_from(64 - vtcr.t0sz(), level::output_size(vtcr.ps()), n, r.vttbr)
+    start_from(
+        64 - vtcr.t0sz(),
+        level::output_size(r.pamax, vtcr.ps()),
+        n,
+        r.vttbr,
+    )
 }
 
 // Stage 2 for walks. Where it is off no walk starts and there is no IPA. (Where the limit was 2 to a size in any case, the compiler would

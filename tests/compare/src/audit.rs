@@ -1,5 +1,5 @@
 //! An independent audit: "The audit" of document 01 in plain Rust, written without regard to the proved code.
-use crate::walk::{bits, failing_item, shift, stage2_on, Capture, Question, Start};
+use crate::walk::{bits, failing_item, shift, stage2_on, Capture, OutputSize, Question, Start};
 use std::ops::Range;
 
 /// Addresses and counts are multiples of this, and so many bytes has a listed table.
@@ -94,7 +94,7 @@ pub fn failing_setting(q: &Question) -> Option<u64> {
 /// Stage 2's root, with all entries of one that is concatenated; none if every IPA faults before any read. That does not depend
 /// on the IPA, but for one too large.
 fn root(q: &Question) -> Option<Table> {
-    let start = Start::stage2(q, 0).ok()?;
+    let start = Start::stage2(q, 0, OutputSize::Lowered).ok()?;
     Some(Table { address: start.table, level: start.level, entries: 1 << (start.input_size - shift(start.level)), listed: false })
 }
 

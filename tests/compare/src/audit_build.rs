@@ -1,9 +1,9 @@
 //! Audits that are clean: tables built in an image, and grants that hold all their leaves and touch no table.
 use crate::audit::{failing_setting, touch, Lists, FRAME, MOST_GRANTS, MOST_TABLES};
-use crate::generate::{table_base, Plan};
+use crate::generate::{built_for, table_base, Plan};
 use crate::random::Random;
 use crate::tables::{ignored_address_bits, stage2_leaf_bits, Builder, Image, Part};
-use crate::walk::{bits, shift, Question, Start, SIZES};
+use crate::walk::{bits, shift, OutputSize, Question, Start};
 use std::ops::Range;
 
 /// An audit with its capture, which is a part of an image.
@@ -222,14 +222,14 @@ fn start(random: &mut Random, image: &mut Image) -> (Question, Option<Start>) {
         plan = Plan::new(random);
     }
     let mut q = plan.question;
-    let output_size = SIZES[bits(q.vtcr_el2, 18, 16).min(5) as usize];
+    let output_size = built_for(random).of_ps(&q);
     image.clear(table_base(random, output_size, image.length()));
     // The root goes anywhere, with tables before and after it.
     for _ in 0..random.below(image.length() / FRAME - 32) {
         image.room(random, FRAME);
     }
     q.vttbr_el2 = Builder::new(random, image, &q, plan.deep).stage2_root(&q);
-    let start = if plan.stage2 && failing_setting(&q).is_none() { Start::stage2(&q, 0).ok() } else { None };
+    let start = if plan.stage2 && failing_setting(&q).is_none() { Start::stage2(&q, 0, OutputSize::Lowered).ok() } else { None };
     (q, start)
 }
 

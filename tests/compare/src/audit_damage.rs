@@ -4,7 +4,7 @@ use crate::audit_build::{build, index, merged, odd_bits, pad_grants, Asked, LARG
 use crate::generate::{damage_el2_register, unlisted_pamax};
 use crate::random::Random;
 use crate::tables::{Image, LENGTH};
-use crate::walk::{bits, shift, Question, SIZES};
+use crate::walk::{bits, shift, OutputSize, Question, SIZES};
 use std::ops::Range;
 
 /// The first address of the frame that an address is in.
@@ -269,9 +269,9 @@ fn damage_registers(random: &mut Random, q: &mut Question) {
             size = random.between(39, q.pamax);
         }
         7 => {
-            let code = random.below(5);
-            put(&mut q.vtcr_el2, 18, 16, code);
-            let output_size = SIZES[code as usize];
+            put(&mut q.vtcr_el2, 18, 16, random.below(6));
+            // A PAMax that is not listed may be any number.
+            let output_size = OutputSize::Lowered.of_ps(q).clamp(32, 47);
             q.vttbr_el2 |= 1 << if random.percent(50) { output_size } else { random.between(output_size - 1, 47) };
         }
         8 => put(&mut q.vtcr_el2, 18, 16, random.pick(&[5, 6, 7])),

@@ -6,7 +6,7 @@ use crate::audit_damage::Audits;
 use crate::classes::{Counts, HIGH, SETTINGS};
 use crate::proved::{self, AuditWords};
 use crate::vectors::{audit_answer_text, audit_text, AuditLine};
-use crate::walk::{bit, bits, stage2_on, Capture, Question};
+use crate::walk::{bit, bits, stage2_on, Capture, OutputSize, Question};
 use crate::{blamed, unread, PRINTED};
 use std::collections::BTreeSet;
 use std::ops::Range;
@@ -88,7 +88,8 @@ fn no_root(q: &Question) -> &'static str {
         (0, _) if q.pamax <= 42 => "level 0, PAMax and size check",
         (_, 0) => "size check 0",
         (_, 14) => "size check 14",
-        (_, 1..=13) => "base beyond output size",
+        (_, 1..=13) if bits(q.vttbr_el2, 47, OutputSize::Coded.of_ps(q)) != 0 => "base beyond output size",
+        (_, 1..=13) => "base beyond PAMax alone",
         (_, check) if check < 0 => "size check under 0",
         _ => "size check over 14",
     }
@@ -141,7 +142,8 @@ impl Classes {
         all.add(HIGH, ["past 2^48", "past 2^64"]);
         all.add(SETTINGS, [1, 2, 3, 4, 8, 9]);
         all.add(GROUND, Lists::default().grounds().map(|ground| ground.0));
-        all.add(NO_ROOT, ["stage 2 off", "start below 0", "level 0, PAMax 42", "level 0, PAMax less", "base beyond output size"]);
+        all.add(NO_ROOT, ["stage 2 off", "start below 0", "level 0, PAMax 42", "level 0, PAMax less"]);
+        all.add(NO_ROOT, ["base beyond output size", "base beyond PAMax alone"]);
         all.add(NO_ROOT, ["size check under 0", "size check 0", "size check 14", "size check over 14"]);
         all.add(UNTESTED, [4, 8, 9]);
         all.add(TESTED, [1, 2, 3]);

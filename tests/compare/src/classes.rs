@@ -50,6 +50,14 @@ fn stopped(number: u64, stage: u64, onwalk: u64) -> String {
     format!("{number:2} {}, stage {stage}{on_walk}, by level", MEANINGS[number as usize])
 }
 
+/// Of those that the lowering of the output size to PAMax decides.
+const LOWERED: &str = " 2 by the lowering to PAMax";
+
+fn lowered(stage: u64, onwalk: u64) -> String {
+    let on_walk = if onwalk == 1 { " on-walk" } else { "" };
+    format!("{LOWERED}, stage {stage}{on_walk}, at the base or by level")
+}
+
 const TRANSLATED: &str = " 0 translated, by leaf levels";
 const FIRST_BYTES: &str = " 6 first bytes of the descriptor there, by number";
 const LAST_BYTES: &str = " 6 last bytes of the descriptor there, by number";
@@ -86,6 +94,10 @@ impl Classes {
                 all.add(&stopped(number, stage, onwalk), &levels[first..]);
             }
         }
+        all.add(LOWERED, [""]);
+        for (stage, onwalk) in [(1, 0), (2, 0), (2, 1)] {
+            all.add(&lowered(stage, onwalk), ["base", "0", "1", "2", "3"]);
+        }
         for stage in [1, 2] {
             all.add(&stopped(5, stage, 0), ["0"]);
         }
@@ -98,6 +110,13 @@ impl Classes {
         all.add(SETTINGS, ["1", "2", "3", "4", "5", "6", "7", "8", "9"]);
         all.add("13 kind, EL or size", [""]);
         Classes(all)
+    }
+
+    /// Counts a question that the lowering decides, by its answer. A base register is tested before the first read, an entry after it.
+    pub fn meet_lowered(&mut self, words: &Words) {
+        self.0.count(LOWERED, "");
+        let place = if words.reads == 0 { "base".to_string() } else { words.level.to_string() };
+        self.0.count(&lowered(words.stage, words.onwalk), place);
     }
 
     /// Counts a question under every class that it is in, by its answer.

@@ -2,7 +2,7 @@
 //! Purely random registers and memory would nearly always be refused or fault before the first read.
 use crate::random::Random;
 use crate::tables::{passing_leaf_bits, stage1_leaf_bits, stage2_leaf_bits, table_bits, Builder, Image, Part, LENGTH};
-use crate::walk::{self, bits, Answer, Capture, Question, SIZES};
+use crate::walk::{self, bits, Answer, Capture, OutputSize, Question, SIZES};
 
 /// A question with its capture, which is a part of an image, and the length of its log.
 pub struct Asked {
@@ -41,13 +41,22 @@ fn mair_el1(random: &mut Random) -> u64 {
     })
 }
 
-/// An IPS or PS that lets all of PAMax through, or any.
+/// An IPS or PS that says PAMax, or the largest, or any.
 fn output_code(random: &mut Random, pamax: u64) -> u64 {
     let any = random.below(6);
-    if random.percent(60) {
-        SIZES.iter().position(|&size| size == pamax).map_or(any, |code| code as u64)
+    match random.below(10) {
+        0..=3 => SIZES.iter().position(|&size| size == pamax).map_or(any, |code| code as u64),
+        4..=6 => 5,
+        _ => any,
+    }
+}
+
+/// What output size tables are built for: at times one that the walk lowers, so that the lowering decides.
+pub fn built_for(random: &mut Random) -> OutputSize {
+    if random.percent(70) {
+        OutputSize::Lowered
     } else {
-        any
+        OutputSize::Coded
     }
 }
 
@@ -179,8 +188,9 @@ fn untranslated(random: &mut Random, width: u64) -> u64 {
 fn build(random: &mut Random, image: &mut Image, plan: &mut Plan) {
     let (address, upper, size) = plan.stage1_input(random);
     let q = &mut plan.question;
-    let code = if plan.stage2 { bits(q.vtcr_el2, 18, 16) } else { bits(q.tcr_el1, 34, 32) };
-    image.clear(table_base(random, SIZES[code.min(5) as usize], LENGTH));
+    let output = built_for(random);
+    let output_size = if plan.stage2 { output.of_ps(q) } else { output.of_ips(q) };
+    image.clear(table_base(random, output_size, LENGTH));
     for register in [&mut q.ttbr0_el1, &mut q.ttbr1_el1, &mut q.vttbr_el2] {
         *register = random.word();
     }
@@ -260,7 +270,7 @@ fn damage_descriptor(random: &mut Random, image: &mut Image, q: &Question) {
         if random.percent(75) { read_address(random, image, q) } else { (!image.written.is_empty()).then(|| random.pick(&image.written)) };
     if let Some(at) = at {
         let mut word = image.get(at);
-        match random.below(10) {
+        match random.below(11) {
             0 => word = random.word(),
             1 => word = word & !3 | random.bits(2),
             2 => word ^= 1 << 10,
@@ -268,6 +278,7 @@ fn damage_descriptor(random: &mut Random, image: &mut Image, q: &Question) {
             4 => word ^= random.bits(3) << 6,
             5 => word ^= random.bits(8) << 2,
             6 => word ^= 1 << random.between(52, 62),
+            7 => word |= 1 << random.between(q.pamax.min(47), 47),
             _ => flip(random, &mut word),
         }
         image.set(at, word);

@@ -18,7 +18,7 @@ use proved::Words;
 use std::process::ExitCode;
 use std::time::{Duration, Instant};
 use vectors::{answer_text, log_text, question_text, Line};
-use walk::{Capture, Question};
+use walk::{Capture, OutputSize, Question};
 
 const USAGE: &str = "\
 compare vectors FILE..      hold the walk, the audit and the proved functions to the answers of files
@@ -187,6 +187,12 @@ fn report(count: u64, differ: u64, missed: Vec<String>, enough: u64) -> ExitCode
     status(differ == 0 && missed.is_empty())
 }
 
+/// Whether the walk's reply would be another, were the output sizes not lowered to PAMax.
+fn lowering_decides(q: &Question, capture: Capture, log_words: usize, reply: &Reply) -> bool {
+    let coded = Reply::new(log_words, |log| walk::ask_by(OutputSize::Coded, q, capture, log).into());
+    coded.words != reply.words || coded.log != reply.log
+}
+
 /// Prints a question on which the two differ as a line of the vectors, with the walk's answer, and then both replies.
 /// Of the capture it has the words that either read: no others can matter to a walk.
 fn print_difference(q: &Question, capture: Capture, log_words: usize, both: &Compared, why: &str) {
@@ -209,6 +215,9 @@ fn compare_random(count: u64, seed: u64) -> ExitCode {
         let capture = asked.part.capture(image);
         let both = Compared::new(q, capture, asked.log_words);
         classes.meet(q, capture.base, capture.bytes.len(), &both.walk.words);
+        if lowering_decides(q, capture, asked.log_words, &both.walk) {
+            classes.meet_lowered(&both.walk.words);
+        }
         if let Some(why) = both.difference(image.bytes == image.copy) {
             differ += 1;
             if differ <= PRINTED {

@@ -1,6 +1,7 @@
 //! The memory that captures are taken from, and translation tables built in it, so that walks have descriptors to read.
+use crate::generate::built_for;
 use crate::random::Random;
-use crate::walk::{bits, shift, Capture, Question, SIZES};
+use crate::walk::{bits, shift, Capture, Question};
 use std::ops::Range;
 
 /// The length of an image for questions.
@@ -194,7 +195,7 @@ pub struct Builder<'a> {
     pub random: &'a mut Random,
     image: &'a mut Image,
     stage2: Option<Stage2>,
-    /// Stage 1's output size.
+    /// The output size that stage 1 is built for.
     ipa_size: u64,
     /// All leaves at level 3, for long walks.
     deep: bool,
@@ -205,7 +206,8 @@ pub struct Builder<'a> {
 impl<'a> Builder<'a> {
     pub fn new(random: &'a mut Random, image: &'a mut Image, q: &Question, deep: bool) -> Builder<'a> {
         let passing = random.percent(60);
-        Builder { random, image, stage2: None, ipa_size: SIZES[bits(q.tcr_el1, 34, 32).min(5) as usize], deep, passing }
+        let ipa_size = built_for(random).of_ips(q);
+        Builder { random, image, stage2: None, ipa_size, deep, passing }
     }
 
     /// Makes room for stage 2's root, and gives VTTBR_EL2. If the registers have no usable start, nothing can be built.
@@ -215,7 +217,7 @@ impl<'a> Builder<'a> {
         if let Some(start) = usable {
             let size = root_size(input_size, start);
             let root = self.image.room(self.random, size);
-            let output_size = SIZES[bits(q.vtcr_el2, 18, 16).min(5) as usize];
+            let output_size = built_for(self.random).of_ps(q);
             self.stage2 = Some(Stage2 { input_size, output_size, start, root });
             return base_register(self.random, root, size);
         }

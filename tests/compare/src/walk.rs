@@ -135,8 +135,38 @@ pub fn bits(word: u64, high: u64, low: u64) -> u64 {
     word >> low & (u64::MAX >> (63 - (high - low)))
 }
 
-/// The output sizes by IPS or PS, which are also what PAMax may be.
+/// What IPS or PS says of the output size, by its code. These are also what PAMax may be.
 pub const SIZES: [u64; 6] = [32, 36, 40, 42, 44, 48];
+
+/// By what a stage's output size is found.
+#[derive(Clone, Copy)]
+pub enum OutputSize {
+    /// Document 02, §2: IPS or PS, lowered to PAMax.
+    Lowered,
+    /// IPS or PS alone. No walk is bounded so any more: it tells which answers the lowering decides.
+    Coded,
+}
+
+impl OutputSize {
+    /// In bits. A code that the settings refuse counts as the largest.
+    pub fn bits(self, code: u64, pamax: u64) -> u64 {
+        let coded = SIZES[code.min(5) as usize];
+        match self {
+            OutputSize::Lowered => coded.min(pamax),
+            OutputSize::Coded => coded,
+        }
+    }
+
+    /// Stage 1's.
+    pub fn of_ips(self, q: &Question) -> u64 {
+        self.bits(bits(q.tcr_el1, 34, 32), q.pamax)
+    }
+
+    /// Stage 2's.
+    pub fn of_ps(self, q: &Question) -> u64 {
+        self.bits(bits(q.vtcr_el2, 18, 16), q.pamax)
+    }
+}
 
 /// The lowest input bit that a level's index has.
 pub fn shift(level: u64) -> u64 {
@@ -312,7 +342,7 @@ impl Start {
     }
 
     /// Stage 2's, for an IPA.
-    pub fn stage2(q: &Question, ipa: u64) -> Result<Start, Cause> {
+    pub fn stage2(q: &Question, ipa: u64, output: OutputSize) -> Result<Start, Cause> {
         let vtcr = q.vtcr_el2;
         let size = 64 - bits(vtcr, 5, 0);
         let level = 2 - bits(vtcr, 7, 6) as i64;
@@ -323,7 +353,7 @@ impl Start {
         if !(1..=13).contains(&size_check) {
             return Err(Cause::Translation);
         }
-        Start::new(q.vttbr_el2, size, SIZES[bits(vtcr, 18, 16) as usize], level as u64)
+        Start::new(q.vttbr_el2, size, output.of_ps(q), level as u64)
     }
 }
 
@@ -344,6 +374,7 @@ struct Output {
 
 struct Walk<'a> {
     q: &'a Question,
+    output: OutputSize,
     capture: Capture<'a>,
     log: &'a mut [u64],
     reads: usize,
@@ -414,7 +445,7 @@ impl Walk<'_> {
             31..=39 => 1,
             _ => 2,
         };
-        Start::new(ttbr, size, SIZES[bits(tcr, 34, 32) as usize], level)
+        Start::new(ttbr, size, self.output.of_ips(self.q), level)
     }
 
     fn stage1_permits(&self, leaf: &Leaf) -> bool {
@@ -501,7 +532,7 @@ impl Walk<'_> {
 
     fn stage2(&mut self, ipa: u64, on_walk: bool) -> Result<Output, Stop> {
         let place = Place { stage: 2, on_walk, ipa };
-        let start = Start::stage2(self.q, ipa).map_err(|cause| Stop { cause, place, level: 0 })?;
+        let start = Start::stage2(self.q, ipa, self.output).map_err(|cause| Stop { cause, place, level: 0 })?;
         let leaf = self.table_walk(&start, ipa, place)?;
         self.stage2_output(&leaf, on_walk).map_err(|cause| Stop { cause, place, level: leaf.level })
     }
@@ -520,10 +551,15 @@ impl Walk<'_> {
 
 /// The answer to one question. The addresses of the descriptors read are left in the log.
 pub fn ask(q: &Question, capture: Capture, log: &mut [u64]) -> Answer {
+    ask_by(OutputSize::Lowered, q, capture, log)
+}
+
+/// The same with output sizes found in this way.
+pub fn ask_by(output: OutputSize, q: &Question, capture: Capture, log: &mut [u64]) -> Answer {
     if let Some(refusal) = refusal(q, capture, log.len()) {
         return Answer::Refused(refusal);
     }
-    let mut walk = Walk { q, capture, log, reads: 0 };
+    let mut walk = Walk { q, output, capture, log, reads: 0 };
     let end = walk.both_stages();
     end.unwrap_or_else(|stop| Answer::Stopped { stop, reads: walk.reads })
 }

@@ -1,16 +1,9 @@
--- `output_size` meets its contract: each arm's number, or that it is none of them, settles the tests. Assumes nothing.
-use borrow.Author.Tests.{ne-eqb}
-use Rattle.bits.specs.Bits.{pick}
+-- `output_size` meets its contract. Assumes nothing.
+use Rattle.bits.proofs.Tests.{choices}
 use Rattle.level.specs.Level.{outputSize}
 use Rattle.level.proofs.output_size.Statement.{statement}
 use Rattle.level.proofs.output_size.Tie as tie
 
 pub output-size-spec : {M : Type 1} → statement M
-unfolding outputSize pick
-output-size-spec =
-    tie.close
-    (tie.spec
-    (λ c. rw (c .match .keys1)) (λ c. rw (c .match .keys2)) (λ c. rw (c .match .keys3)) (λ c. rw (c .match .keys4)) (λ c. rw (c .match .keys5))
-    (λ c.
-    let none = c .match .rest in
-    simp (ne-eqb _ 0 (none .0 .0 .0 .0 .1), ne-eqb _ 1 (none .0 .0 .0 .1), ne-eqb _ 2 (none .0 .0 .1), ne-eqb _ 3 (none .0 .1), ne-eqb _ 4 (none .1))))
+unfolding outputSize
+output-size-spec = tie.close (tie.spec (λ c κs. tt) (λ c. search choices) (λ c. search choices))
