@@ -82,7 +82,7 @@ typedef struct humpelkaas_access {
 enum humpelkaas_number {
     HUMPELKAAS_TRANSLATED = 0,
     HUMPELKAAS_TRANSLATION_FAULT = 1,
-    HUMPELKAAS_ADDRESS_SIZE_FAULT = 2,
+    HUMPELKAAS_ADDRESS_SIZE_FAULT = 2, /* an address of more bits than IPS or PS says, or than PAMax */
     HUMPELKAAS_ACCESS_FLAG_FAULT = 3,
     HUMPELKAAS_PERMISSION_FAULT = 4,
     HUMPELKAAS_ALIGNMENT_FAULT = 5,

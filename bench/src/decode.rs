@@ -2,7 +2,7 @@
 use crate::proved::Question;
 use crate::straight::Cause;
 
-/// The output sizes by IPS or PS.
+/// What IPS or PS says of the output size.
 const SIZES: [u64; 6] = [32, 36, 40, 42, 44, 48];
 
 /// Where a stage's table walk starts.
@@ -65,6 +65,11 @@ fn top(q: &Question, high: bool) -> u64 {
     }
 }
 
+/// The output size by a register whose bits 2 to 0 are IPS or PS: no more than PAMax.
+fn output_size(q: &Question, register: u64) -> u64 {
+    SIZES[(register & 7) as usize].min(q.pamax)
+}
+
 /// The root of a walk from a base register. Bits of the base under the root's size are ignored.
 fn root(base: u64, size: u64, output_size: u64, shift: u64) -> Result<Root, Cause> {
     let address = base & ones(47, 0);
@@ -97,7 +102,7 @@ fn stage1(q: &Question, high: bool) -> Stage1 {
     };
     let tested = ones(top(q, high), size);
     let wanted = if high { tested } else { 0 };
-    Stage1 { tested, wanted, root: root(base, size, SIZES[(q.tcr_el1 >> 32 & 7) as usize], shift), mair, write_implies_xn }
+    Stage1 { tested, wanted, root: root(base, size, output_size(q, q.tcr_el1 >> 32), shift), mair, write_implies_xn }
 }
 
 /// Stage 1 is on with SCTLR_EL1.M, unless HCR_EL2.DC is set.
@@ -128,7 +133,7 @@ fn root2(q: &Question, size: u64) -> Result<Root, Cause> {
     }
     let shift = 12 + 9 * (3 - level);
     match size as i64 - shift {
-        1..=13 => root(q.vttbr_el2, size, SIZES[(q.vtcr_el2 >> 16 & 7) as usize], shift as u64),
+        1..=13 => root(q.vttbr_el2, size, output_size(q, q.vtcr_el2 >> 16), shift as u64),
         _ => Err(Cause::Translation),
     }
 }

@@ -7,7 +7,7 @@ use crate::results;
 use crate::scope;
 use crate::steps::{self, Says, Step};
 use crate::trouble::{standard_output, Status, Trouble};
-use humpelkaas::{translate, Answer, Fault, Told};
+use humpelkaas::{translate, Answer, Fault, Stage, Told};
 use serde_json::{json, Map, Value};
 use std::fmt::Write as _;
 use std::io::Write;
@@ -29,7 +29,8 @@ pub fn status(answer: &Answer) -> Status {
 fn ending(answer: &Answer) -> Option<&'static str> {
     match answer {
         Answer::Fault { fault: Fault::Translation, .. } => Some("translation fault"),
-        Answer::Fault { fault: Fault::AddressSize, .. } => Some("its address is beyond the output size"),
+        Answer::Fault { fault: Fault::AddressSize, stage: Stage::One, .. } => Some("its address has more bits than IPS or PAMax allows"),
+        Answer::Fault { fault: Fault::AddressSize, .. } => Some("its address has more bits than PS or PAMax allows"),
         Answer::Fault { fault: Fault::AccessFlag, .. } => Some("access flag clear"),
         Answer::Fault { fault: Fault::Permission, .. } => Some("this access is not permitted"),
         Answer::Misaligned { .. } => Some("Device memory, and the access is not aligned"),

@@ -10,7 +10,7 @@ pub fn advice(refusal: Refusal) -> &'static str {
         Refusal::Unlisted => "check --kind, --el and --size",
         Refusal::BatchLists => "give lists of one length, at most 4,096",
         Refusal::AuditLists => "grants: ADDRESS BYTES in multiples of 4,096, ascending, with a gap between neighbours, at most 256; tables: ADDRESS LEVEL, level 1 to 3, ascending, none twice, at most 1,024",
-        Refusal::NoRoot => "check HCR_EL2.VM, and VTCR_EL2 and VTTBR_EL2 of this guest",
+        Refusal::NoRoot => "check HCR_EL2.VM, VTCR_EL2 and VTTBR_EL2 of this guest, and the board's PAMAX",
     }
 }
 

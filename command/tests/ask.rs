@@ -156,10 +156,20 @@ fn cases() -> Vec<Case> {
             words: &[(0x4000_2280, 0x10_0009_07ff)],
             registers: Registers { vtcr_el2: 0x1_0059, ..Registers::cases() },
             line: "0x1008, read of 8 bytes at EL0: address size fault, stage 2, level 3, IPA 0x50008 (answer 2, 15 descriptors read)",
-            last: Some("page at 0x1000090000, rwx, Normal Write-Back, inner shareable: its address is beyond the output size"),
+            last: Some("page at 0x1000090000, rwx, Normal Write-Back, inner shareable: its address has more bits than PS or PAMax allows"),
             reads: 15,
             answer: json!({ "number": 2, "stage": 2, "level": 3, "on_walk": false, "ipa": "0x50008" }),
             ..case("address size", "0x1008 --el 0")
+        },
+        // IPS says 48 bits, PAMax 40: a page of stage 1 at 2^40.
+        Case {
+            words: &[(0x4000_5008, 0x100_0005_0743)],
+            registers: Registers { tcr_el1: 0x5_0080_0019, ..Registers::cases() },
+            line: "0x1008, read of 8 bytes at EL0: address size fault, stage 1, level 3 (answer 2, 12 descriptors read)",
+            last: Some("page at 0x10000050000, EL1 rw- EL0 rwx, Normal Write-Back, inner shareable: its address has more bits than IPS or PAMax allows"),
+            reads: 12,
+            answer: json!({ "number": 2, "stage": 1, "level": 3, "on_walk": false, "ipa": null }),
+            ..case("address size, lowered to PAMax", "0x1008 --el 0")
         },
         // Device memory by stage 2 alone.
         Case {

@@ -209,13 +209,15 @@ fn lists_of_an_audit() {
 #[test]
 fn no_usable_root() {
     let said = "there is no usable stage 2 root: stage 2 is off, or it faults every IPA before any read.\n\
-        What to do: check HCR_EL2.VM, and VTCR_EL2 and VTTBR_EL2 of this guest.\n";
+        What to do: check HCR_EL2.VM, VTCR_EL2 and VTTBR_EL2 of this guest, and the board's PAMAX.\n";
     let cases = Registers::cases();
     for registers in [
         Registers { hcr_el2: 0x8000_0000, ..cases },
         Registers { vtcr_el2: 0x2_00d9, ..cases },
         Registers { vtcr_el2: 0x2_0019, ..cases },
         Registers { vttbr_el2: 0x100_0000_0000, ..cases },
+        // PS says 48, which PAMax lowers to 40.
+        Registers { vtcr_el2: 0x5_0059, vttbr_el2: 0x100_0000_0000, ..cases },
     ] {
         let bench = Bench::new(&Memory::cases(), &registers);
         bench.write("lists", "");

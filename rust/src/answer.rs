@@ -10,6 +10,7 @@ const LOG: usize = 24;
 #[derive(Clone, Copy, Debug, PartialEq, Eq)]
 pub enum Fault {
     Translation,
+    /// An address of more bits than IPS or PS says, or than PAMax.
     AddressSize,
     AccessFlag,
     Permission,

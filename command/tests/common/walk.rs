@@ -112,7 +112,7 @@ impl Walk<'_> {
 pub fn through(memory: &Memory, registers: &Registers, entry: u64, table: bool) -> Option<(u64, u64)> {
     let level = 2_u64.checked_sub(registers.vtcr_el2 >> 6 & 3)?;
     let (base, entries) = root(registers.vttbr_el2, level, 64 - (registers.vtcr_el2 & 0x3f))?;
-    let output_size = [32, 36, 40, 42, 44, 48][(registers.vtcr_el2 >> 16 & 7) as usize];
+    let output_size = [32, 36, 40, 42, 44, 48][(registers.vtcr_el2 >> 16 & 7) as usize].min(registers.pamax);
     Search { memory, entry, table, output_size }.tables(base, entries, level, 0)
 }
 
