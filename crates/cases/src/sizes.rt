@@ -6,7 +6,7 @@ use crate::audits;
 use crate::el1;
 use crate::el2;
 use crate::image;
-use registers::El1;
+use crate::print;
 use registers::El2;
 use registers::hcr::Hcr;
 
@@ -25,44 +25,49 @@ fn fill(bytes: &mut [u8], at: u64, leaf: u64)
     image::put(bytes, 0x2008, leaf);
 }
 
+// Stage 2's root at an address.
 fn host(at: u64) -> El2 {
     let mut r = el2(PS_5);
     r.vttbr = at;
     r
 }
 
-fn guest(at: u64) -> El1 {
-    let mut g = el1(5, IPS_5);
-    g.ttbr0 = at;
-    g
-}
-
-// Stage 1 alone.
-fn ask1(name: &[u8], at: u64, output: u64)
+fn stage1(name: &[u8], at: u64, output: u64)
     requires { ⌜ (at < 2 ^ 48) × (output < 2 ^ 48) ⌝ }
 {
     let mut bytes = [0u8; 0x3000];
     fill(&mut bytes, at, output + 0x743);
     let mut r = el2(PS_5);
     r.hcr = Hcr::new(0x8000_0000);
-    ask(name, &bytes, at, r, guest(at), access(0x1008, 0, 0));
+    let mut g = el1(5, IPS_5);
+    g.ttbr0 = at;
+    print::text(b"IPS 5, stage 1 alone, ");
+    ask(name, &bytes, at, r, g, access(0x1008, 0, 0));
 }
 
-// Stage 2 alone.
-fn ask2(name: &[u8], at: u64, output: u64)
+fn stage2(name: &[u8], at: u64, output: u64)
     requires { ⌜ (at < 2 ^ 48) × (output < 2 ^ 48) ⌝ }
 {
     let mut bytes = [0u8; 0x3000];
     fill(&mut bytes, at, output + 0x7ff);
+    print::text(b"PS 5, stage 2 alone, ");
     ask(name, &bytes, at, host(at), el1(0, 0), access(0x1008, 0, 0));
 }
 
-// The audit with both tables listed and the page granted.
+fn each_stage(name: &[u8], at: u64, output: u64)
+    requires { ⌜ (at < 2 ^ 48) × (output < 2 ^ 48) ⌝ }
+{
+    stage1(name, at, output);
+    stage2(name, at, output);
+}
+
+// The root's two tables are listed, the page is granted.
 fn audit(name: &[u8], at: u64, output: u64)
     requires { ⌜ (at < 2 ^ 48) × (output < 2 ^ 48) ⌝ }
 {
     let mut bytes = [0u8; 0x3000];
     fill(&mut bytes, at, output + 0x7ff);
+    print::text(b"PS 5, audit, ");
     audits::audit(
         name,
         &bytes,
@@ -75,58 +80,13 @@ fn audit(name: &[u8], at: u64, output: u64)
     );
 }
 
-fn stage1() {
-    ask1(
-        b"PAMax 40, IPS 5, stage 1 alone, all below 2^40: ",
-        EDGE - 0x3000,
-        EDGE - 0x1000,
-    );
-    ask1(b"the same, page at 2^40: ", EDGE - 0x3000, EDGE);
-    ask1(
-        b"the same, level 3 table at 2^40: ",
-        EDGE - 0x2000,
-        0x9_0000,
-    );
-    ask1(
-        b"the same, level 2 table at 2^40: ",
-        EDGE - 0x1000,
-        0x9_0000,
-    );
-    ask1(b"the same, root at 2^40: ", EDGE, 0x9_0000);
-}
-
-fn stage2() {
-    ask2(
-        b"PAMax 40, PS 5, stage 2 alone, all below 2^40: ",
-        EDGE - 0x3000,
-        EDGE - 0x1000,
-    );
-    ask2(b"the same, page at 2^40: ", EDGE - 0x3000, EDGE);
-    ask2(
-        b"the same, level 3 table at 2^40: ",
-        EDGE - 0x2000,
-        0x9_0000,
-    );
-    ask2(
-        b"the same, level 2 table at 2^40: ",
-        EDGE - 0x1000,
-        0x9_0000,
-    );
-    ask2(b"the same, root at 2^40: ", EDGE, 0x9_0000);
-}
-
-fn audit_both() {
-    audit(
-        b"PAMax 40, PS 5, audit, all below 2^40: ",
-        EDGE - 0x3000,
-        0x9_0000,
-    );
-    audit(b"the same, page at 2^40: ", EDGE - 0x3000, EDGE);
-    audit(b"the same, root at 2^40: ", EDGE, 0x9_0000);
-}
-
 pub(crate) fn all() {
-    stage1();
-    stage2();
-    audit_both();
+    each_stage(b"all below 2^40: ", EDGE - 0x3000, EDGE - 0x1000);
+    each_stage(b"page at 2^40: ", EDGE - 0x3000, EDGE);
+    each_stage(b"level 3 table at 2^40: ", EDGE - 0x2000, 0x9_0000);
+    each_stage(b"level 2 table at 2^40: ", EDGE - 0x1000, 0x9_0000);
+    each_stage(b"root at 2^40: ", EDGE, 0x9_0000);
+    audit(b"all below 2^40: ", EDGE - 0x3000, 0x9_0000);
+    audit(b"page at 2^40: ", EDGE - 0x3000, EDGE);
+    audit(b"root at 2^40: ", EDGE, 0x9_0000);
 }

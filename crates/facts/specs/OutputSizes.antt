@@ -1,9 +1,9 @@
--- The output size on both sides of 2^40 (02, §2): of each stage at the base register, at a table entry of each level and at a leaf,
--- and of the audit at the base register alone.
+-- The output size on both sides of 2^40 (02, §2): of each stage at the base register, at table entries and at a leaf, and of the audit at
+-- the base register alone.
 -- Assumes nothing.
 use mathlib.Core.Path.{_≡_, refl}
 use mathlib.Core.Bool.{true, false}
-use mathlib.Core.List.{List, [], _∷_, _++_, map}
+use mathlib.Core.List.{List, [], _∷_, map}
 use Prim.Native.Nat.{ℕ, _+_, _-_, _*_}
 use lib.ListN.{take}
 use Rattle.answers.specs.Answers.{address, stage, level, level1, level2, on-walk, ipa, reads}
@@ -29,7 +29,7 @@ sizes : map (λ pamax. map (outputSize pamax) (0 ∷ 1 ∷ 2 ∷ 3 ∷ 4 ∷ 5 �
 unfolding opened
 sizes = refl
 
--- ---- one stage alone, over three tables that lie one after the other and map 0x1008
+-- ---- each stage alone, over three tables that lie one after the other and map 0x1008
 
 -- 2^40
 abbrev pub edge : ℕ
@@ -50,100 +50,61 @@ guestAt ips at = record { sctlr = record { 0 = 5 }; tcr = record { 0 = ips * 0x1
 abbrev pub hostAt : (pamax ps at : ℕ) → El2
 hostAt pamax ps at = registers pamax 0x80000001 (ps * 0x10000 + 0x59) at 0
 
--- stage 1 with stage 2 off, of a page of this output address
-abbrev pub stage1Alone : (pamax ips at output : ℕ) → Row
-stage1Alone pamax ips at output = asked (tablesAt at (output + 0x743)) (registers pamax 0x80000000 0 0 0) (guestAt ips at) (access 0x1008 0 0) 24
+-- of a page of this output address: stage 1 with stage 2 off and IPS as the code, stage 2 with stage 1 off and PS as the code
+abbrev pub alone : (pamax code at output : ℕ) → Row × Row
+alone pamax code at output = (
+  asked (tablesAt at (output + 0x743)) (registers pamax 0x80000000 0 0 0) (guestAt code at) (access 0x1008 0 0) 24,
+  asked (tablesAt at (output + 0x7FF)) (hostAt pamax code at) (el1 0 0) (access 0x1008 0 0) 24,
+)
 
--- stage 2 with stage 1 off
-abbrev pub stage2Alone : (pamax ps at output : ℕ) → Row
-stage2Alone pamax ps at output = asked (tablesAt at (output + 0x7FF)) (hostAt pamax ps at) (el1 0 0) (access 0x1008 0 0) 24
+-- both translate
+abbrev pub to : (at output : ℕ) → Row × Row
+to at output = (
+  record { number = 0; values = address (output + 8) ∷ writeBack ∷ level1 3 ∷ level2 0 ∷ reads 3 ∷ []; log = logged (entries at) },
+  record { number = 0; values = address (output + 8) ∷ strictDevice ∷ level1 0 ∷ level2 3 ∷ reads 3 ∷ []; log = logged (entries at) },
+)
 
--- their answers
-abbrev pub to1 : (at output : ℕ) → Row
-to1 at output = record { number = 0; values = address (output + 8) ∷ writeBack ∷ level1 3 ∷ level2 0 ∷ reads 3 ∷ []; log = logged (entries at) }
+-- both fault at a level, after n reads
+abbrev pub fault : (at level n : ℕ) → Row × Row
+fault at l n = (
+  record { number = 2; values = stage 1 ∷ level l ∷ on-walk false ∷ reads n ∷ []; log = logged (take n (entries at)) },
+  record { number = 2; values = stage 2 ∷ level l ∷ on-walk false ∷ reads n ∷ ipa 0x1008 ∷ []; log = logged (take n (entries at)) },
+)
 
-abbrev pub to2 : (at output : ℕ) → Row
-to2 at output = record { number = 0; values = address (output + 8) ∷ strictDevice ∷ level1 0 ∷ level2 3 ∷ reads 3 ∷ []; log = logged (entries at) }
-
-abbrev pub fault1 : (at level n : ℕ) → Row
-fault1 at l n = record { number = 2; values = stage 1 ∷ level l ∷ on-walk false ∷ reads n ∷ []; log = logged (take n (entries at)) }
-
-abbrev pub fault2 : (at level n : ℕ) → Row
-fault2 at l n = record { number = 2; values = stage 2 ∷ level l ∷ on-walk false ∷ reads n ∷ ipa 0x1008 ∷ []; log = logged (take n (entries at)) }
-
--- ---- stage 1, PAMax 40 and IPS 5
-
--- tables and page end at 2^40
-stage1-below : stage1Alone 40 5 (edge - 0x3000) (edge - 0x1000) ≡ to1 (edge - 0x3000) (edge - 0x1000)
+-- PAMax 40 and code 5. The last table and the page, which is its own frame, end at 2^40
+size-below : alone 40 5 (edge - 0x3000) (edge - 0x1000) ≡ to (edge - 0x3000) (edge - 0x1000)
 unfolding opened asked
-stage1-below = refl
+size-below = refl
 
--- a page at 2^40
-stage1-leaf : stage1Alone 40 5 (edge - 0x3000) edge ≡ fault1 (edge - 0x3000) 3 3
+-- the page at 2^40
+size-leaf : alone 40 5 (edge - 0x3000) edge ≡ fault (edge - 0x3000) 3 3
 unfolding opened asked
-stage1-leaf = refl
+size-leaf = refl
 
--- a level 3 table at 2^40
-stage1-table-3 : stage1Alone 40 5 (edge - 0x2000) 0x90000 ≡ fault1 (edge - 0x2000) 2 2
+-- the level 3 table at 2^40
+size-table-3 : alone 40 5 (edge - 0x2000) 0x90000 ≡ fault (edge - 0x2000) 2 2
 unfolding opened asked
-stage1-table-3 = refl
+size-table-3 = refl
 
--- a level 2 table at 2^40
-stage1-table-2 : stage1Alone 40 5 (edge - 0x1000) 0x90000 ≡ fault1 (edge - 0x1000) 1 1
+-- the level 2 table at 2^40
+size-table-2 : alone 40 5 (edge - 0x1000) 0x90000 ≡ fault (edge - 0x1000) 1 1
 unfolding opened asked
-stage1-table-2 = refl
+size-table-2 = refl
 
 -- the root at 2^40
-stage1-base : stage1Alone 40 5 edge 0x90000 ≡ fault1 edge 0 0
+size-base : alone 40 5 edge 0x90000 ≡ fault edge 0 0
 unfolding opened asked
-stage1-base = refl
+size-base = refl
 
--- PAMax 48 and IPS 2: the same size
-stage1-coded : stage1Alone 48 2 (edge - 0x3000) edge ≡ fault1 (edge - 0x3000) 3 3
+-- PAMax 48 and code 2: the same size
+size-coded : alone 48 2 (edge - 0x3000) edge ≡ fault (edge - 0x3000) 3 3
 unfolding opened asked
-stage1-coded = refl
+size-coded = refl
 
--- PAMax 48 and IPS 5: tables and page from 2^40 on
-stage1-wide : stage1Alone 48 5 edge edge ≡ to1 edge edge
+-- PAMax 48 and code 5: tables and page from 2^40 on
+size-wide : alone 48 5 edge edge ≡ to edge edge
 unfolding opened asked
-stage1-wide = refl
-
--- ---- stage 2, PAMax 40 and PS 5
-
--- tables and page end at 2^40
-stage2-below : stage2Alone 40 5 (edge - 0x3000) (edge - 0x1000) ≡ to2 (edge - 0x3000) (edge - 0x1000)
-unfolding opened asked
-stage2-below = refl
-
--- a page at 2^40
-stage2-leaf : stage2Alone 40 5 (edge - 0x3000) edge ≡ fault2 (edge - 0x3000) 3 3
-unfolding opened asked
-stage2-leaf = refl
-
--- a level 3 table at 2^40
-stage2-table-3 : stage2Alone 40 5 (edge - 0x2000) 0x90000 ≡ fault2 (edge - 0x2000) 2 2
-unfolding opened asked
-stage2-table-3 = refl
-
--- a level 2 table at 2^40
-stage2-table-2 : stage2Alone 40 5 (edge - 0x1000) 0x90000 ≡ fault2 (edge - 0x1000) 1 1
-unfolding opened asked
-stage2-table-2 = refl
-
--- the root at 2^40
-stage2-base : stage2Alone 40 5 edge 0x90000 ≡ fault2 edge 0 0
-unfolding opened asked
-stage2-base = refl
-
--- PAMax 48 and PS 2: the same size
-stage2-coded : stage2Alone 48 2 (edge - 0x3000) edge ≡ fault2 (edge - 0x3000) 3 3
-unfolding opened asked
-stage2-coded = refl
-
--- PAMax 48 and PS 5: tables and page from 2^40 on
-stage2-wide : stage2Alone 48 5 edge edge ≡ to2 edge edge
-unfolding opened asked
-stage2-wide = refl
+size-wide = refl
 
 -- ---- both stages: case A
 
@@ -161,7 +122,7 @@ case-A-ps = refl
 
 -- ---- the audit, PS 5: of it only answer 16 follows
 
--- the three tables and the one page are listed and granted
+-- the root's two tables are listed, the page is granted
 abbrev pub audit : (pamax at output : ℕ) → AuditAnswer
 audit pamax at output = auditedPairs (tablesAt at (output + 0x7FF)) (hostAt pamax 5 at) ((output, 0x1000) ∷ []) ((at + 0x1000, 2) ∷ (at + 0x2000, 3) ∷ [])
 
@@ -178,7 +139,7 @@ audit-wide : audit 48 edge 0x90000 ≡ Clean
 unfolding opened audited
 audit-wide = refl
 
--- both listed tables from 2^40 on, and the page
+-- both listed tables from 2^40 on; then the page
 audit-table : audit 40 (edge - 0x1000) 0x90000 ≡ Clean
 unfolding opened audited
 audit-table = refl
