@@ -1,7 +1,10 @@
 // Runs both sides of 2^40 on the proved question and audit: PAMax is 40, and IPS or PS says 48.
 ghost use Prim.Native.Nat.{_<_, _^_};
+use crate::TCR;
+use crate::VTCR;
 use crate::access;
 use crate::ask;
+use crate::ask_with;
 use crate::audits;
 use crate::el1;
 use crate::el2;
@@ -80,13 +83,36 @@ fn audit(name: &[u8], at: u64, output: u64)
     );
 }
 
+// Case A with one page past 2^40: that of stage 1, then the one that holds stage 1's root.
+fn both_stages() {
+    let a = access(0x1008, 0, 0);
+    ask_with(
+        b"A, IPS 5, page of stage 1 past 2^40: ",
+        0x5008,
+        0x100_0005_0743,
+        el2(VTCR),
+        el1(5, IPS_5),
+        a,
+    );
+    ask_with(
+        b"A, PS 5, root of stage 1 past 2^40: ",
+        0x2008,
+        0x100_4000_37ff,
+        el2(PS_5),
+        el1(5, TCR),
+        a,
+    );
+}
+
 pub(crate) fn all() {
     each_stage(b"all below 2^40: ", EDGE - 0x3000, EDGE - 0x1000);
     each_stage(b"page at 2^40: ", EDGE - 0x3000, EDGE);
     each_stage(b"level 3 table at 2^40: ", EDGE - 0x2000, 0x9_0000);
     each_stage(b"level 2 table at 2^40: ", EDGE - 0x1000, 0x9_0000);
     each_stage(b"root at 2^40: ", EDGE, 0x9_0000);
+    both_stages();
     audit(b"all below 2^40: ", EDGE - 0x3000, 0x9_0000);
+    audit(b"tables at 2^40: ", EDGE - 0x1000, 0x9_0000);
     audit(b"page at 2^40: ", EDGE - 0x3000, EDGE);
     audit(b"root at 2^40: ", EDGE, 0x9_0000);
 }

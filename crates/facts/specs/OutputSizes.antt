@@ -108,7 +108,7 @@ size-wide = refl
 
 -- ---- both stages: case A
 
--- IPS 5, the page of stage 1 at 2^40: stage 2, to which that IPA is too wide, is not asked
+-- IPS 5, the page of stage 1 at 2^40 + 0x50000: stage 2, to which that IPA is too wide, is not asked
 case-A-ips : asked (image ((0x40005008, 0x10000050743) ∷ [])) host (el1 5 0x500800019) (access 0x1008 0 0) 24
     ≡ record { number = 2; values = stage 1 ∷ level 3 ∷ on-walk false ∷ reads 12 ∷ []; log = logged stage1Reads }
 unfolding opened asked
