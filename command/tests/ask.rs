@@ -161,7 +161,7 @@ fn cases() -> Vec<Case> {
             answer: json!({ "number": 2, "stage": 2, "level": 3, "on_walk": false, "ipa": "0x50008" }),
             ..case("address size", "0x1008 --el 0")
         },
-        // IPS says 48 bits, PAMax 40: a page of stage 1 at 2^40.
+        // IPS says 48 bits, PAMax 40, and a page of stage 1 is past 2^40.
         Case {
             words: &[(0x4000_5008, 0x100_0005_0743)],
             registers: Registers { tcr_el1: 0x5_0080_0019, ..Registers::cases() },

@@ -44,18 +44,22 @@ pub struct Classes(pub Counts);
 const MEANINGS: [&str; 8] =
     ["translated", "translation", "address size", "access flag", "permission", "alignment", "not in the capture", "unsettled"];
 
-/// A row of answers 1 to 7. The stage's word and the on-walk word are those of the answer.
-fn stopped(number: u64, stage: u64, onwalk: u64) -> String {
-    let on_walk = if onwalk == 1 { " on-walk" } else { "" };
-    format!("{number:2} {}, stage {stage}{on_walk}, by level", MEANINGS[number as usize])
+/// A stage by its word and the on-walk word of an answer.
+fn place(stage: u64, onwalk: u64) -> String {
+    format!("stage {stage}{}", if onwalk == 1 { " on-walk" } else { "" })
 }
 
-/// Of those that the lowering of the output size to PAMax decides.
+/// A row of answers 1 to 7.
+fn stopped(number: u64, stage: u64, onwalk: u64) -> String {
+    format!("{number:2} {}, {}, by level", MEANINGS[number as usize], place(stage, onwalk))
+}
+
+/// Answers that the lowering of the output size to PAMax decides.
 const LOWERED: &str = " 2 by the lowering to PAMax";
 
+/// A row of them.
 fn lowered(stage: u64, onwalk: u64) -> String {
-    let on_walk = if onwalk == 1 { " on-walk" } else { "" };
-    format!("{LOWERED}, stage {stage}{on_walk}, at the base or by level")
+    format!("{LOWERED}, {}, at the base or by level", place(stage, onwalk))
 }
 
 const TRANSLATED: &str = " 0 translated, by leaf levels";
@@ -115,8 +119,8 @@ impl Classes {
     /// Counts a question that the lowering decides, by its answer. A base register is tested before the first read, an entry after it.
     pub fn meet_lowered(&mut self, words: &Words) {
         self.0.count(LOWERED, "");
-        let place = if words.reads == 0 { "base".to_string() } else { words.level.to_string() };
-        self.0.count(&lowered(words.stage, words.onwalk), place);
+        let found_at = if words.reads == 0 { "base".to_string() } else { words.level.to_string() };
+        self.0.count(&lowered(words.stage, words.onwalk), found_at);
     }
 
     /// Counts a question under every class that it is in, by its answer.

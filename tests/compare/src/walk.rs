@@ -1,4 +1,5 @@
-//! An independent walk: one question answered by document 01 in plain Rust, written without regard to the proved code.
+//! An independent walk: one question answered by document 01, with the output size of document 02, §2, in plain Rust, written without
+//! regard to the proved code.
 //! Comments in quotation marks name the heading of document 01 that a rule is from.
 
 pub const READ: u64 = 0;
@@ -138,12 +139,12 @@ pub fn bits(word: u64, high: u64, low: u64) -> u64 {
 /// What IPS or PS says of the output size, by its code. These are also what PAMax may be.
 pub const SIZES: [u64; 6] = [32, 36, 40, 42, 44, 48];
 
-/// By what a stage's output size is found.
+/// How a stage's output size is found.
 #[derive(Clone, Copy)]
 pub enum OutputSize {
-    /// Document 02, §2: IPS or PS, lowered to PAMax.
+    /// By IPS or PS, lowered to PAMax.
     Lowered,
-    /// IPS or PS alone. No walk is bounded so any more: it tells which answers the lowering decides.
+    /// By IPS or PS alone. No walk is bounded so any more: it tells which answers the lowering decides.
     Coded,
 }
 
