@@ -13,6 +13,7 @@ use borrow.Author.Tests.{eqb-true, not-false}
 use Rattle.bits.specs.Bits.{pick}
 use Rattle.reads.specs.Program.{Request, Outcome, reached, stopped, run, reads, ends}
 use Rattle.access.specs.declared.Access.{Access}
+use Rattle.descriptor.specs.declared.entry.Geometry.{Geometry}
 use Rattle.reads.specs.declared.Read.{Read}
 use Rattle.bits.proofs.Tests.{by-pick, pick-true, pick-false}
 use Rattle.reads.proofs.Tally.{Tally, Tight, AllThree}
@@ -33,10 +34,12 @@ use Rattle.walk.specs.declared.table.Root.the-variants.{Unusable, Usable}
 use Rattle.walk.proofs.Counts.{HasLevels}
 use Rattle.stages.proofs.Counts.{tight-access}
 use Rattle.registers.specs.Tcr
-use Rattle.registers.specs.Vtcr
 use Rattle.settings.specs.Settings.{stage1On, stage2On, settings}
-use Rattle.level.specs.Level.{fourK, start1, start2, levelsBelow}
-use Rattle.regime.specs.Roots.{geometry1, rangeOf, root2, stage1, stage2}
+use Rattle.level.specs.declared.granule.Granule.{Granule}
+use Rattle.level.specs.Granule.{geometryOf, Granular}
+use Rattle.level.specs.Level.{start1, levelsBelow}
+use Rattle.level.proofs.Granules.{tg0-granular, tg1-granular}
+use Rattle.regime.specs.Roots.{startLevel2, lowerGeometry, upperGeometry, rangeOf, root2, stage1, stage2}
 use Rattle.registers.specs.declared.El1.{El1}
 use Rattle.registers.specs.declared.El2.{El2}
 use Rattle.regime.specs.Calls.{Sized}
@@ -64,11 +67,10 @@ has-levels (Usable t) = refl
 
 -- ---- stage 2
 
-root2-levels : (r : El2) (l : ℕ) → start2 (Vtcr.sl0 (r .vtcr)) ≡ pos l → (HasLevels (n2 r) (root2 r)) × (n2 r ≤ 4)
+root2-levels : (r : El2) (l : ℕ) → startLevel2 r ≡ pos l → (HasLevels (n2 r) (root2 r)) × (n2 r ≤ 4)
 root2-levels r l e =
-    let below : l ≤ 3 = omega (arith, start2-most r l e) in
-    let h = levels-from (start2 (Vtcr.sl0 (r .vtcr))) l below e in
-    (by-root2 (HasLevels (n2 r)) (λ k l′. tt) r (λ l′ e′ _. h .0), h .1)
+    let h = levels-from (startLevel2 r) l (start2-most r l e) e in
+    (by-root2 (HasLevels (n2 r)) (λ k l′. tt) r (λ l′ e′ _ _. h .0), h .1)
 
 few-levels : (root : Root) → Sane root → levelsOf root ≤ 4
 unfolding levelsOf
@@ -80,36 +82,36 @@ root2-few r = few-levels (root2 r) (root2-sane r)
 
 -- ---- stage 1
 
-start1-levels : (s output : ℕ) → Sized s → (suc (levelsBelow (start1 (fourK s output))) ≡ levelsFrom (start1 (fourK s output))) × (levelsFrom (start1 (fourK s output)) ≤ 4)
-start1-levels s output h =
-    let p = start1-is s output h in
-    let below : p .0 ≤ 3 = omega (arith, p .1) in
-    levels-from (start1 (fourK s output)) (p .0) below (p .2)
+module _ (k : Granule) (granular : Granular k) (s output : ℕ) where
+  abbrev geometry : Geometry
+  geometry = geometryOf k s output
 
-range-levels : (s output : ℕ) (epd : Bool) (ttbr : ℕ) → (epd ≡ false → Sized s) →
-    let g = fourK s output in (HasLevels (rangeLevels g epd) (rangeOf g epd ttbr .root)) × (rangeLevels g epd ≤ 4)
-range-levels s output epd ttbr sized = (
-  by-range (HasLevels (rangeLevels (fourK s output) epd)) (λ k l. tt) (fourK s output) epd ttbr (λ e. start1-levels _ _ (sized e) .0 ∙ sym (pick-false epd 0 _ e)),
-  by-pick (λ n. n ≤ 4) epd 0 _ (λ _. omega arith) (λ e. start1-levels _ _ (sized e) .1),
-)
+  start1-levels : Sized s → (suc (levelsBelow (start1 geometry)) ≡ levelsFrom (start1 geometry)) × (levelsFrom (start1 geometry) ≤ 4)
+  start1-levels h = let b = start1-is k s output granular h in levels-from (start1 geometry) (b .l) (b .most) (b .is)
+
+  range-levels : (epd : Bool) (ttbr : ℕ) → (epd ≡ false → Sized s) → (HasLevels (rangeLevels geometry epd) (rangeOf geometry epd ttbr .root)) × (rangeLevels geometry epd ≤ 4)
+  range-levels epd ttbr sized = (
+    by-range (HasLevels (rangeLevels geometry epd)) (λ k l. tt) geometry epd ttbr (λ e. start1-levels (sized e) .0 ∙ sym (pick-false epd 0 _ e)),
+    by-pick (λ n. n ≤ 4) epd 0 _ (λ _. omega arith) (λ e. start1-levels (sized e) .1),
+  )
 
 -- accepted settings bound the levels of the VA range that an address picks
 module _ (r : El2) (g : El1) (a : ℕ) (accepted : settings r g ≡ 0) (on : stage1On r g ≡ true) where
   abbrev lower : ℕ
-  lower = rangeLevels (geometry1 r g (Tcr.t0sz (g .tcr))) (Tcr.epd0 (g .tcr))
+  lower = rangeLevels (lowerGeometry r g) (Tcr.epd0 (g .tcr))
 
   abbrev upper : ℕ
-  upper = rangeLevels (geometry1 r g (Tcr.t1sz (g .tcr))) (Tcr.epd1 (g .tcr))
+  upper = rangeLevels (upperGeometry r g) (Tcr.epd1 (g .tcr))
 
   root1-levels : HasLevels (pick (isUpper (stage1 r g) a) upper lower) (root1At (stage1 r g) a)
   unfolding stage1
   root1-levels =
       by-root1At (HasLevels (pick (isUpper (stage1 r g) a) upper lower)) (λ k l. tt) (stage1 r g) a
-      (λ e. rw (pick-true (isUpper (stage1 r g) a) upper lower e) (range-levels _ _ _ _ (upper-sized r g accepted on) .0))
-      (λ e. rw (pick-false (isUpper (stage1 r g) a) upper lower e) (range-levels _ _ _ _ (lower-sized r g accepted on) .0))
+      (λ e. rw (pick-true (isUpper (stage1 r g) a) upper lower e) (range-levels _ (tg1-granular _) _ _ _ _ (upper-sized r g accepted on) .0))
+      (λ e. rw (pick-false (isUpper (stage1 r g) a) upper lower e) (range-levels _ (tg0-granular _) _ _ _ _ (lower-sized r g accepted on) .0))
 
   root1-few : pick (isUpper (stage1 r g) a) upper lower ≤ 4
-  root1-few = by-pick (λ n. n ≤ 4) (isUpper (stage1 r g) a) upper lower (λ _. range-levels _ _ _ (g .ttbr1) (upper-sized r g accepted on) .1) (λ _. range-levels _ _ _ (g .ttbr0) (lower-sized r g accepted on) .1)
+  root1-few = by-pick (λ n. n ≤ 4) (isUpper (stage1 r g) a) upper lower (λ _. range-levels _ (tg1-granular _) _ _ _ (g .ttbr1) (upper-sized r g accepted on) .1) (λ _. range-levels _ (tg0-granular _) _ _ _ (g .ttbr0) (lower-sized r g accepted on) .1)
 
 n1-few : (r : El2) (g : El1) (a : ℕ) → settings r g ≡ 0 → n1 r g a ≤ 4
 n1-few r g a accepted = by-pick (λ n. n ≤ 4) (stage1On r g) _ 0 (λ on. root1-few r g a accepted on) (λ _. omega arith)

@@ -15,11 +15,10 @@ use Rattle.answers.specs.declared.Verdict.the-variants as Verdict
 use Rattle.stages.specs.declared.both.Translation.{Translation}
 use Rattle.answers.specs.declared.Answer.the-variants.{Translated, Refused}
 use Rattle.registers.specs.Tcr
-use Rattle.registers.specs.Vtcr
 use Rattle.settings.specs.Settings.{stage1On, stage2On}
 use Rattle.descriptor.specs.declared.entry.Geometry.{Geometry}
-use Rattle.level.specs.Level.{start1, start2}
-use Rattle.regime.specs.Roots.{geometry1, stage1}
+use Rattle.level.specs.Level.{start1}
+use Rattle.regime.specs.Roots.{startLevel2, lowerGeometry, upperGeometry, stage1}
 use Rattle.registers.specs.declared.El1.{El1}
 use Rattle.registers.specs.declared.El2.{El2}
 use Rattle.answers.specs.Question.{Told, refusal, ask}
@@ -38,12 +37,12 @@ abbrev pub n1 : El2 → El1 → (address : ℕ) → ℕ
 n1 r g a =
     pick (stage1On r g)
     (pick (isUpper (stage1 r g) a)
-    (rangeLevels (geometry1 r g (Tcr.t1sz (g .tcr))) (Tcr.epd1 (g .tcr)))
-    (rangeLevels (geometry1 r g (Tcr.t0sz (g .tcr))) (Tcr.epd0 (g .tcr))))
+    (rangeLevels (upperGeometry r g) (Tcr.epd1 (g .tcr)))
+    (rangeLevels (lowerGeometry r g) (Tcr.epd0 (g .tcr))))
     0
 
 abbrev pub n2 : El2 → ℕ
-n2 r = levelsFrom (start2 (Vtcr.sl0 (r .vtcr)))
+n2 r = levelsFrom (startLevel2 r)
 
 abbrev pub limit : El2 → El1 → (address : ℕ) → ℕ
 limit r g a = n1 r g a * (n2 r + 1) + n2 r
@@ -59,7 +58,7 @@ pub record Counted (most : ℕ) (t : Told) : Type 0 where
 
 -- every question that is not refused, with stage 2 on and its start at level 0 to 3
 pub record Counts (base : ℕ) (bytes : List ℕ) (r : El2) (g : El1) (a : Access) (log : List ℕ) : Type 0 where
-  pub counted : stage2On r ≡ true → (l : ℕ) → start2 (Vtcr.sl0 (r .vtcr)) ≡ pos l → refusal (length log) base (length bytes) r g a ≡ Verdict.Accepted →
+  pub counted : stage2On r ≡ true → (l : ℕ) → startLevel2 r ≡ pos l → refusal (length log) base (length bytes) r g a ≡ Verdict.Accepted →
       Counted (limit r g (a .address)) (ask base bytes r g a log) × (limit r g (a .address) ≤ 24)
   -- with stage 2 off, stage 1's own
   pub alone : stage2On r ≡ false → refusal (length log) base (length bytes) r g a ≡ Verdict.Accepted →

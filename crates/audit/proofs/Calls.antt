@@ -9,7 +9,7 @@ use lib.Dec.{leb}
 use lib.ListN.{length, getD}
 use borrow.Author.Tests.{leb-true}
 use Rattle.bits.proofs.Tests.{and-left, and-right}
-use Rattle.lists.specs.Lists.{zip, tableFits, wholeFrames, grantsFormed, wellFormed}
+use Rattle.lists.specs.Lists.{zip, tableFits, isMultiple, grantsFormed, wellFormed}
 use Rattle.lists.specs.Search.{touches}
 use Rattle.lists.proofs.Pairs.{from, from-next, from-end}
 use Rattle.reads.specs.Program.{Request}
@@ -83,13 +83,14 @@ module _ (m : Request → Read) (g : Geometry) (grants tables : List (ℕ × ℕ
 -- ---- lists
 
 -- a listed table lies below 2^48, at level 1 to 3
-pub table-bounds : (table level : ℕ) → tableFits (table, level) ≡ true → (table + 4096 ≤ 2 ^ 48) × (1 ≤ level) × (level ≤ 3)
+pub table-bounds : (size table level : ℕ) → 0 < size → tableFits size (table, level) ≡ true → (table < 2 ^ 48) × (1 ≤ level) × (level ≤ 3)
 unfolding tableFits
-table-bounds table level e =
-    let low = and-left (wholeFrames table && leb (table + 4096) (2 ^ 48) && leb 1 level) (leb level 3) e in (
-      leb-true (table + 4096) (2 ^ 48) (and-right (wholeFrames table) _ (and-left (wholeFrames table && leb (table + 4096) (2 ^ 48)) (leb 1 level) low)),
-      leb-true 1 level (and-right (wholeFrames table && leb (table + 4096) (2 ^ 48)) _ low),
-      leb-true level 3 (and-right (wholeFrames table && leb (table + 4096) (2 ^ 48) && leb 1 level) _ e),
+table-bounds size table level some e =
+    let low = and-left (isMultiple table size && leb (table + size) (2 ^ 48) && leb 1 level) (leb level 3) e in
+    let ends = leb-true (table + size) (2 ^ 48) (and-right (isMultiple table size) _ (and-left (isMultiple table size && leb (table + size) (2 ^ 48)) (leb 1 level) low)) in (
+      omega (arith, ends),
+      leb-true 1 level (and-right (isMultiple table size && leb (table + size) (2 ^ 48)) _ low),
+      leb-true level 3 (and-right (isMultiple table size && leb (table + size) (2 ^ 48) && leb 1 level) _ e),
     )
 
 -- the lists have one length, and the tables from i on decide
@@ -116,6 +117,7 @@ module _ {m : Request → Read} {g : Geometry} {grants : List (ℕ × ℕ)} {tab
   listing-over over = rw (from-end tables levels (w .same) i over) at (w .rest)
 
 -- what the audit tests is what its searches ask for
-pub formed : (grants counts tables levels : List ℕ) → wellFormed grants counts tables levels ≡ true → Formed grants counts tables levels
+pub formed : (size : ℕ) (grants counts tables levels : List ℕ) → 0 < size → wellFormed size grants counts tables levels ≡ true → Formed grants counts tables levels
 unfolding wellFormed
-formed grants counts tables levels e = record { granted = and-left (grantsFormed grants counts) _ e; listed = and-right (grantsFormed grants counts) _ e }
+formed size grants counts tables levels some e =
+    record { granted = and-left (grantsFormed grants counts) _ e; listed = record { size = size; some = some; formed = and-right (grantsFormed grants counts) _ e } }

@@ -1,18 +1,16 @@
 -- What an audit is told: each refusal where its ground is the first that holds, else what the tables say.
 -- Assumes nothing.
-use mathlib.Core.Path.{_≡_, refl, sym, ap, _∙_}
-use mathlib.Core.Bool.{true, false, not}
+use mathlib.Core.Path.{_≡_}
+use mathlib.Core.Bool.{true, false}
 use mathlib.Core.List.{List}
 use Prim.Native.Nat.{ℕ}
-use lib.Dec.{eqb}
 use lib.ListN.{length}
-use borrow.Author.Tests.{eq-eqb, ne-eqb}
+use borrow.Author.Tests.{ne-eqb}
 use Rattle.bits.specs.Bits.{pick}
 use Rattle.capture.specs.Capture.{captured, endsHigh}
 use Rattle.settings.specs.Settings.{stage2On, auditSettings}
-use Rattle.regime.specs.Roots.{root2}
+use Rattle.regime.specs.Roots.{tableSize, root2}
 use Rattle.registers.specs.declared.El2.{El2}
-use Rattle.walk.specs.declared.table.Root.{Root}
 use Rattle.answers.specs.Refusals.{refuse}
 use Rattle.answers.specs.declared.Refusal.the-variants.{HighCapture, Settings, AuditLists, NoRoot}
 use Rattle.lists.specs.Lists.{zip, wellFormed}
@@ -34,11 +32,11 @@ module _ (base : ℕ) (bytes : List ℕ) (r : El2) (grants counts tables levels 
     told-item item is some = rw (low, ← is, ne-eqb item 0 some)
 
     module _ (set : auditSettings r ≡ 0) where
-      pub told-lists : wellFormed grants counts tables levels ≡ false → Refused AuditLists ≡ answer
+      pub told-lists : wellFormed (tableSize r) grants counts tables levels ≡ false → Refused AuditLists ≡ answer
       unfolding audit auditOver refuse pick
       told-lists e = rw (low, set, e)
 
-      module _ (formed : wellFormed grants counts tables levels ≡ true) where
+      module _ (formed : wellFormed (tableSize r) grants counts tables levels ≡ true) where
         pub told-off : stage2On r ≡ false → Refused NoRoot ≡ answer
         unfolding audit auditOver refuse pick
         told-off e = rw (low, set, formed, e)

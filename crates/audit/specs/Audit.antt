@@ -18,7 +18,7 @@ use Rattle.walk.specs.declared.table.Root.{Root}
 use Rattle.walk.specs.declared.table.Root.the-variants.{Unusable, Usable}
 use Rattle.walk.specs.declared.table.Table.{Table}
 use Rattle.settings.specs.Settings.{stage2On, auditSettings}
-use Rattle.regime.specs.Roots.{root2}
+use Rattle.regime.specs.Roots.{tableSize, root2}
 use Rattle.registers.specs.declared.El2.{El2}
 use Rattle.answers.specs.Answers.{refusalNumber, itemOf}
 use Rattle.answers.specs.Refusals.{Ground, refuse, highCapture, failing}
@@ -115,7 +115,7 @@ abbrev pub auditGrounds : (base size : ℕ) → El2 → (grants counts tables le
 auditGrounds base size r grants counts tables levels =
     highCapture base size
     ∷ failing (auditSettings r)
-    ∷ record { holds = not (wellFormed grants counts tables levels); refusal = AuditLists }
+    ∷ record { holds = not (wellFormed (tableSize r) grants counts tables levels); refusal = AuditLists }
     ∷ record { holds = not (stage2On r); refusal = NoRoot }
     ∷ []
 

@@ -8,7 +8,7 @@ use Rattle.bits.specs.Bits.{pick}
 use Rattle.reads.specs.Program.{Request}
 use Rattle.reads.specs.declared.Read.{Read}
 use Rattle.descriptor.specs.declared.entry.Geometry.{Geometry}
-use Rattle.lists.specs.Lists.{grantsFormed, tablesFormed}
+use Rattle.lists.specs.Lists.{grantsFormed, Tables}
 use Rattle.audit.specs.Audit.{found, stage2Read, missing, examine}
 use Rattle.audit.specs.declared.FindingKind.{FindingKind}
 use Rattle.audit.specs.declared.AuditAnswer.{AuditAnswer}
@@ -17,7 +17,7 @@ use Rattle.audit.specs.declared.AuditAnswer.the-variants.{Clean, Found, 
 -- well-formed lists, each kind by itself, as a search asks for them
 pub record Formed (grants counts tables levels : List ℕ) : Type 0 where
   pub granted : grantsFormed grants counts ≡ true
-  pub listed : tablesFormed tables levels ≡ true
+  pub listed : Tables tables levels
 
 unfoldable pub isClean : AuditAnswer → Bool
 isClean Clean = true

@@ -76,7 +76,7 @@ pub fn audit(
     if item != 0 {
         return AuditAnswer::Refused(Refusal::Settings { item });
     }
-    if !lists::well_formed(grants, counts, tables, levels) {
+    if !lists::well_formed(regime::table_size(r), grants, counts, tables, levels) {
         return AuditAnswer::Refused(Refusal::AuditLists);
     }
     if !settings::stage2_on(r) {

@@ -177,7 +177,7 @@ fn one_table(
     j: u64,
     table: u64,
 ) -> AuditAnswer
-    requires { ⌜ Calls.Formed (now grants) (now counts) (now tables) (now levels) × (n ≤ 3) × (shift g n < 48) × (base + length (now bytes) ≤ 2 ^ 64) × (j ≤ 16) × (table < 2 ^ 48) ⌝ }
+    requires { ⌜ Calls.Formed (now grants) (now counts) (now tables) (now levels) × (n ≤ 3) × (shift g n < 48) × (base + length (now bytes) ≤ 2 ^ 64) × (j ≤ 17) × (table < 2 ^ 48) ⌝ }
     ensures { λ r. ⌜ r ≡ Audits.auditTable (captured base (now (bytes .entry))) g (zip (now (grants .entry)) (now (counts .entry))) (zip (now (tables .entry)) (now (levels .entry))) n j table ⌝ }
 {
     let entries = two_to(j);

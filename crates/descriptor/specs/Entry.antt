@@ -13,12 +13,12 @@ use Rattle.descriptor.specs.declared.entry.Entry.{Entry}
 use Rattle.descriptor.specs.declared.entry.Entry.the-variants.{Next, Final, Fault, Unsettled}
 use Rattle.descriptor.specs.declared.entry.Inherited.{Inherited}
 
--- t: how many input bits lie below the index of an entry with n levels below it (01, Walk, base)
+-- t: how many input bits lie below the index of an entry with n levels below it (01, Walk, base; 02, §3)
 abbrev pub shift : Geometry → ℕ → ℕ
 shift g n = g .grainsize + g .stride * n
 
 -- the type of the descriptor x of an entry, by its bits 1:0 and its level. What is invalid here is what the audit passes over.
--- (01, Walk, descriptors: bit 0; type 11; type 01 at level 3 and level 0. 01, The audit.)
+-- (01, Walk, descriptors: bit 0; type 11; type 01 at level 3 and level 0. 01, The audit. 02, §3: at level 1 too, for 16KB and 64KB.)
 unfoldable pub descriptorType : Geometry → ℕ → ℕ → DescriptorType
 descriptorType g n x =
     pick (bit x 0)
@@ -27,7 +27,8 @@ descriptorType g n x =
     (pick (eqb n 0) Invalid (pick (leb n (g .block)) Leaf Invalid)))
     Invalid
 
--- the contiguous bit, 52, where Arm leaves it open: on the largest block of a small input size (01, Walk, descriptors: level 1, s under 34)
+-- the contiguous bit, 52, where Arm leaves it open: on the largest block of a small input size (01, Walk, descriptors: level 1, s under 34;
+-- 02, §3: level 2, s under 30 or 34)
 abbrev pub contiguous : Geometry → ℕ → ℕ → Bool
 contiguous g n x = eqb n (g .block) && ltb (g .inputsize) (g .contiguous) && bit x 52
 

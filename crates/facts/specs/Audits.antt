@@ -612,8 +612,8 @@ case-M-size-16 : onEl2 (sized 48 0x20090) ≡ accepted
 unfolding opened audited
 case-M-size-16 = refl
 
--- TG0 is 1
-case-M-granule : onEl2 (el2 0x24059) ≡ Refused (Settings 9)
+-- TG0 is 3, which is reserved
+case-M-granule : onEl2 (el2 0x2C059) ≡ Refused (Settings 9)
 unfolding opened audited
 case-M-granule = refl
 

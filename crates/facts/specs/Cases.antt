@@ -16,7 +16,8 @@ use Rattle.answers.specs.Answers.{Value, address, attributes, stage, level, lev
 use Rattle.registers.specs.declared.El1.{El1}
 use Rattle.registers.specs.declared.El2.{El2}
 use Rattle.settings.specs.Settings.{settings}
-use Rattle.level.specs.Level.{fourK, start2, sizeCheck}
+use Rattle.level.specs.Granule.{fourK, geometryOf}
+use Rattle.level.specs.Level.{start2, sizeCheck}
 use Rattle.answers.specs.Question.{askOver}
 use Rattle.batch.specs.Batch.{Shared, unequal, batchOver}
 use Rattle.ledger.specs.Ledger.{ledger, ascii, line}
@@ -232,20 +233,20 @@ case-root = refl
 
 -- ---- signed corners: start levels and size checks below 0
 
-corner-start : start2 3 ≡ negsuc 0
+corner-start : start2 fourK 3 ≡ negsuc 0
 unfolding opened
 corner-start = refl
 
 -- 25 bits from level 0 would leave 25 - 39 index bits, from level -1 25 - 48; 48 bits from level -1 leave none
-corner-level-0 : sizeCheck (fourK 25 48) (pos 0) ≡ negsuc 13
+corner-level-0 : sizeCheck (geometryOf fourK 25 48) (pos 0) ≡ negsuc 13
 unfolding opened
 corner-level-0 = refl
 
-corner-level-minus-1 : sizeCheck (fourK 25 48) (start2 3) ≡ negsuc 22
+corner-level-minus-1 : sizeCheck (geometryOf fourK 25 48) (start2 fourK 3) ≡ negsuc 22
 unfolding opened
 corner-level-minus-1 = refl
 
-corner-none : sizeCheck (fourK 48 48) (start2 3) ≡ pos 0
+corner-none : sizeCheck (geometryOf fourK 48 48) (start2 fourK 3) ≡ pos 0
 unfolding opened
 corner-none = refl
 

@@ -14,6 +14,7 @@ use Rattle.stages.specs.Stage1.{place1, check1, stage1Off, translate1}
 use Rattle.stages.specs.Stages.{finish, access}
 use Rattle.answers.specs.Answers.{answer, number, carries}
 use Rattle.settings.specs.Settings.{firstFailing, settings, auditSettings}
+use Rattle.level.specs.Granule.{tg0Granule, tg1Granule}
 use Rattle.level.specs.Level.{codedSize, outputSize, start1, start2, sizeCheck, levelsBelow}
 use Rattle.regime.specs.Roots.{rootOf, root2, stage1, stage2}
 use Rattle.answers.specs.Refusals.{refuse}
@@ -28,5 +29,5 @@ use Rattle.lists.specs.Search.{granted, touches, isListed}
 use Rattle.audit.specs.Audit.{orElse, eachEntry, missing, examineAs, examine, auditTable, auditListed, auditFrom, auditOver}
 
 unfoldable pub opened : Unit {0}
-unfolding pick bind run reads ends descriptorType decodeAs deviceOf mairNibble stage2Bits shareabilityOf isDevice isNonCacheable reported normal mairByte stage2Codes stage1OffAttributes deviceRank cacheRank shareRank combineMemory stage1Permits stage2Permits little within memory wordAt byteAt image descriptorAt sparse ifPresent follow walk walkFrom unless settled permitted give check2 translate2 place1 check1 stage1Off translate1 finish access answer number carries firstFailing settings auditSettings codedSize outputSize start1 start2 sizeCheck levelsBelow rootOf root2 stage1 stage2 refuse told turnedAway askOver answerOf outputOf count ledger answered batchOver ascii digits decimal line lineInto zip all leads ascends grantFits grantBefore tableFits tableBefore grantsFormed tablesFormed wellFormed orElse granted touches isListed eachEntry missing examineAs examine auditTable auditListed auditFrom auditOver
+unfolding pick bind run reads ends descriptorType decodeAs deviceOf mairNibble stage2Bits shareabilityOf isDevice isNonCacheable reported normal mairByte stage2Codes stage1OffAttributes deviceRank cacheRank shareRank combineMemory stage1Permits stage2Permits little within memory wordAt byteAt image descriptorAt sparse ifPresent follow walk walkFrom unless settled permitted give check2 translate2 place1 check1 stage1Off translate1 finish access answer number carries firstFailing settings auditSettings tg0Granule tg1Granule codedSize outputSize start1 start2 sizeCheck levelsBelow rootOf root2 stage1 stage2 refuse told turnedAway askOver answerOf outputOf count ledger answered batchOver ascii digits decimal line lineInto zip all leads ascends grantFits grantBefore tableFits tableBefore grantsFormed tablesFormed wellFormed orElse granted touches isListed eachEntry missing examineAs examine auditTable auditListed auditFrom auditOver
 opened = tt

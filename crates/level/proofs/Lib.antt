@@ -1,1 +1,3 @@
+pub mod Granules
+pub mod Rounded
 pub mod Signed

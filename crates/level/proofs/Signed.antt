@@ -3,6 +3,7 @@
 use mathlib.Core.Path.{_≡_, refl, sym, subst, ap, _∙_}
 use mathlib.Core.Bool.{Bool, true, false, cond, true≢false}
 use Prim.Native.Nat.{ℕ, zero, suc, _+_, _-_, _*_, _^_, _≤_, _<_}
+use native.Mathlib.Nat.{mul-le-mul}
 use native.Mathlib.Omega.{arith}
 use lib.Dec.{ltb}
 use lib.IntN.{ℤ, pos, negsuc, _+ℤ_, _-ℤ_, _*ℤ_}
@@ -11,7 +12,9 @@ use mir.Syntax.{w64}
 use mir.Val.{SFits, toZ, ofZ}
 use mir.Facts.{toZ-pos, toZ-ofZ, sfits-lit}
 use borrow.Author.Tests.{ltb-true, le-ltb}
-use Rattle.level.specs.Level.{fourK, start2, sizeCheck, levelsBelow}
+use Rattle.level.specs.Granule.{strideOf, geometryOf, Granular}
+use Rattle.level.specs.Level.{start2, sizeCheck, levelsBelow}
+use Rattle.level.specs.declared.granule.Granule.{Granule}
 
 -- a number as the machine holds it
 abbrev held : ℤ → ℤ
@@ -25,13 +28,13 @@ pub difference-fits : (a b : ℕ) → a < 2 ^ 63 → b < 2 ^ 63 → SFits w64 (p
 difference-fits a zero ha hb = record { sfits = omega arith }
 difference-fits a (suc b) ha hb = record { sfits = mag-cond (ltb a (suc b)) _ _ _ (omega arith) (omega arith) }
 
--- a number less one that was cast
+-- the difference of two numbers that were cast
 module _ (a n : ℕ) (ha : a < 2 ^ 63) (hn : n < 2 ^ 63) where
-  pub less-fits : SFits w64 (pos a -ℤ toZ w64 n)
-  less-fits = rw (toZ-pos w64 hn) (difference-fits a n ha hn)
+  pub less-fits : SFits w64 (toZ w64 a -ℤ toZ w64 n)
+  less-fits = rw (toZ-pos w64 ha, toZ-pos w64 hn) (difference-fits a n ha hn)
 
-  pub less-is : held (pos a -ℤ toZ w64 n) ≡ pos a -ℤ pos n
-  less-is = rw (toZ-pos w64 hn) (toZ-ofZ (difference-fits a n ha hn))
+  pub less-is : held (toZ w64 a -ℤ toZ w64 n) ≡ pos a -ℤ pos n
+  less-is = rw (toZ-pos w64 ha, toZ-pos w64 hn) (toZ-ofZ (difference-fits a n ha hn))
 
 -- ---- a sign
 
@@ -56,59 +59,97 @@ mirror l = let h : 1 ≤ suc l = omega arith in simp le-ltb (ap pos (omega arith
 
 -- ---- stage 2's start levels: what holds of each holds of any
 
-pub by-start2 : (P : ℤ → Type 0) → P (pos 2) → P (pos 1) → P (pos 0) → P (negsuc 0) → (n : ℕ) → n < 4 → P (start2 n)
-unfolding start2
-by-start2 P p2 p1 p0 p-1 zero h = p2
-by-start2 P p2 p1 p0 p-1 (suc zero) h = p1
-by-start2 P p2 p1 p0 p-1 (suc (suc zero)) h = p0
-by-start2 P p2 p1 p0 p-1 (suc (suc (suc zero))) h = p-1
-by-start2 P p2 p1 p0 p-1 (suc (suc (suc (suc n)))) h = absurd (omega arith)
+module _ (P : ℤ → Type 0) (p3 : P (pos 3)) (p2 : P (pos 2)) (p1 : P (pos 1)) (p0 : P (pos 0)) (p-1 : P (negsuc 0)) where
+  by-first : (f n : ℕ) → f ≤ 1 → n < 4 → P (pos (2 + f) -ℤ pos n)
+  by-first zero zero g h = p2
+  by-first zero (suc zero) g h = p1
+  by-first zero (suc (suc zero)) g h = p0
+  by-first zero (suc (suc (suc zero))) g h = p-1
+  by-first (suc zero) zero g h = p3
+  by-first (suc zero) (suc zero) g h = p2
+  by-first (suc zero) (suc (suc zero)) g h = p1
+  by-first (suc zero) (suc (suc (suc zero))) g h = p0
+  by-first zero (suc (suc (suc (suc n)))) g h = absurd (omega arith)
+  by-first (suc zero) (suc (suc (suc (suc n)))) g h = absurd (omega arith)
+  by-first (suc (suc f)) n g h = absurd (omega arith)
 
--- ---- the size check of stage 2, as the machine holds it
+  pub by-start2 : (k : Granule) (n : ℕ) → Granular k → n < 4 → P (start2 k n)
+  unfolding start2
+  by-start2 k n g h = by-first (k .first) n (g .first) h
 
--- the bits below a root's index
-abbrev below : ℤ → ℤ
-below z = held (held (pos 3 -ℤ held z) *ℤ pos 9) +ℤ pos 12
+-- a start level, as the machine holds it, with c levels below it
+pub record Level (z : ℤ) : Type 0 where
+  pub fits : SFits w64 z
+  pub c : ℕ
+  pub few : c ≤ 4
+  pub below : pos 3 -ℤ z ≡ pos c
 
-pub record Checks (s : ℕ) (z : ℤ) : Type 0 where
-  pub levels : SFits w64 (pos 3 -ℤ held z)
-  pub strides : SFits w64 (held (pos 3 -ℤ held z) *ℤ pos 9)
-  pub bits : SFits w64 (below z)
-  pub left : SFits w64 (toZ w64 s -ℤ held (below z))
-  pub is : held (toZ w64 s -ℤ held (below z)) ≡ pos s -ℤ ((pos 3 -ℤ z) *ℤ pos 9 +ℤ pos 12)
+pub level-of : (k : Granule) (n : ℕ) (z : ℤ) → Granular k → n < 4 → z ≡ start2 k n → Level z
+level-of k n z g h e =
+    subst Level (sym e)
+    (by-start2 Level
+    (record { fits = sfits-lit tt; c = 0; few = omega arith; below = refl })
+    (record { fits = sfits-lit tt; c = 1; few = omega arith; below = refl })
+    (record { fits = sfits-lit tt; c = 2; few = omega arith; below = refl })
+    (record { fits = sfits-lit tt; c = 3; few = omega arith; below = refl })
+    (record { fits = sfits-lit tt; c = 4; few = omega arith; below = refl })
+    k n g h)
 
-pub checks : (s n : ℕ) (z : ℤ) → s ≤ 64 → n < 4 → z ≡ start2 n → Checks s z
-checks s n z most h e =
-    subst (Checks s) (sym e)
-    (by-start2 (Checks s)
-    (record { levels = sfits-lit tt; strides = sfits-lit tt; bits = sfits-lit tt; left = fits 21 (omega arith); is = kept 21 (omega arith) })
-    (record { levels = sfits-lit tt; strides = sfits-lit tt; bits = sfits-lit tt; left = fits 30 (omega arith); is = kept 30 (omega arith) })
-    (record { levels = sfits-lit tt; strides = sfits-lit tt; bits = sfits-lit tt; left = fits 39 (omega arith); is = kept 39 (omega arith) })
-    (record { levels = sfits-lit tt; strides = sfits-lit tt; bits = sfits-lit tt; left = fits 48 (omega arith); is = kept 48 (omega arith) })
-    n h)
-  where
-    small : s < 2 ^ 63
-    small = omega arith
+-- ---- the size check of stage 2, as the machine holds it: a size of s bits, a stride of t and a granule of l
 
-    fits : (b : ℕ) → b < 2 ^ 63 → SFits w64 (toZ w64 s -ℤ pos b)
-    fits b hb = rw (toZ-pos w64 small) (difference-fits s b small hb)
+module _ (s t l : ℕ) (z : ℤ) (v : Level z) (most : s ≤ 64) (stride : t ≤ 13) (log : l ≤ 16) where
+  abbrev levels : ℤ
+  levels = pos 3 -ℤ held z
 
-    kept : (b : ℕ) → b < 2 ^ 63 → held (toZ w64 s -ℤ pos b) ≡ pos s -ℤ pos b
-    kept b hb = rw (toZ-pos w64 small) (toZ-ofZ (difference-fits s b small hb))
+  abbrev strides : ℤ
+  strides = held levels *ℤ toZ w64 t
+
+  abbrev below : ℤ
+  below = held strides +ℤ toZ w64 l
+
+  few-strides : v .c * t ≤ 52
+  few-strides = mul-le-mul (v .few) stride
+
+  levels-is : levels ≡ pos (v .c)
+  levels-is = rw (toZ-ofZ (v .fits)) (v .below)
+
+  pub levels-fit : SFits w64 levels
+  levels-fit = rw levels-is (record { sfits = omega (arith, v .few) })
+
+  strides-is : strides ≡ pos (v .c * t)
+  strides-is = rw (toZ-ofZ levels-fit, levels-is, toZ-pos w64 {n = t} (omega arith))
+
+  pub strides-fit : SFits w64 strides
+  strides-fit = rw strides-is (record { sfits = omega (arith, few-strides) })
+
+  below-is : below ≡ pos (v .c * t + l)
+  below-is = rw (toZ-ofZ strides-fit, strides-is, toZ-pos w64 {n = l} (omega arith))
+
+  pub below-fits : SFits w64 below
+  below-fits = rw below-is (record { sfits = omega (arith, few-strides) })
+
+  left-is : toZ w64 s -ℤ held below ≡ pos s -ℤ pos (v .c * t + l)
+  left-is = rw (toZ-ofZ below-fits, below-is, toZ-pos w64 {n = s} (omega arith))
+
+  pub left-fits : SFits w64 (toZ w64 s -ℤ held below)
+  left-fits = rw left-is (difference-fits s (v .c * t + l) (omega arith) (omega (arith, few-strides)))
+
+  pub check-is : held (toZ w64 s -ℤ held below) ≡ pos s -ℤ ((pos 3 -ℤ z) *ℤ pos t +ℤ pos l)
+  check-is = toZ-ofZ left-fits ∙ left-is ∙ rw (v .below)
 
 -- ---- what is read back of start levels and of a size check
 
-pub start2-held : (n : ℕ) (z : ℤ) → n < 4 → z ≡ start2 n → held z ≡ z
-start2-held n z h e =
-    toZ-ofZ (subst (SFits w64) (sym e) (by-start2 (SFits w64) (sfits-lit tt) (sfits-lit tt) (sfits-lit tt) (sfits-lit tt) n h))
+pub start2-held : (k : Granule) (n : ℕ) (z : ℤ) → Granular k → n < 4 → z ≡ start2 k n → held z ≡ z
+start2-held k n z g h e = toZ-ofZ (level-of k n z g h e .fits)
 
-pub check-held : (s output n : ℕ) (z : ℤ) → s ≤ 64 → n < 4 → z ≡ sizeCheck (fourK s output) (start2 n) → held z ≡ z
+pub check-held : (k : Granule) (s output n : ℕ) (z : ℤ) → Granular k → s ≤ 64 → n < 4 → z ≡ sizeCheck (geometryOf k s output) (start2 k n) → held z ≡ z
 unfolding sizeCheck
-check-held s output n z most h e =
-    toZ-ofZ (subst (SFits w64) (sym e)
-    (by-start2 (λ y. SFits w64 (sizeCheck (fourK s output) y))
-    (difference-fits s 21 (omega arith) (omega arith)) (difference-fits s 30 (omega arith) (omega arith))
-    (difference-fits s 39 (omega arith) (omega arith)) (difference-fits s 48 (omega arith) (omega arith)) n h))
+check-held k s output n z g most h e =
+    let v = level-of k n (start2 k n) g h refl in
+    let stride : strideOf k ≤ 13 = omega (arith, g .most) in
+    let few : v .c * strideOf k ≤ 52 = mul-le-mul (v .few) stride in
+    let is : z ≡ pos s -ℤ pos (v .c * strideOf k + k .log) = e ∙ rw (v .below) in
+    toZ-ofZ (subst (SFits w64) (sym is) (difference-fits s (v .c * strideOf k + k .log) (omega arith) (omega (arith, few, g .most))))
 
 -- ---- how many levels lie below a start level
 
@@ -124,8 +165,8 @@ below-four (suc (suc (suc (suc (suc zero))))) h = refl
 below-four (suc (suc (suc (suc (suc (suc zero)))))) h = refl
 below-four (suc (suc (suc (suc (suc (suc (suc k))))))) h = absurd (omega arith)
 
-pub few-below2 : (n : ℕ) (z : ℤ) → n < 4 → z ≡ start2 n → levelsBelow (held z) ≤ 8
+pub few-below2 : (k : Granule) (n : ℕ) (z : ℤ) → Granular k → n < 4 → z ≡ start2 k n → levelsBelow (held z) ≤ 8
 unfolding levelsBelow
-few-below2 n z h e =
-    subst (λ y. levelsBelow y ≤ 8) (sym (start2-held n z h e ∙ e))
-    (by-start2 (λ y. levelsBelow y ≤ 8) (omega arith) (omega arith) (omega arith) (omega arith) n h)
+few-below2 k n z g h e =
+    subst (λ y. levelsBelow y ≤ 8) (sym (start2-held k n z g h e ∙ e))
+    (by-start2 (λ y. levelsBelow y ≤ 8) (omega arith) (omega arith) (omega arith) (omega arith) (omega arith) k n g h)

@@ -5,6 +5,7 @@ use lib.Dec.{eqb, leb}
 use lib.IntN.{ℤ, pos, negsuc, _+ℤ_, _-ℤ_, _*ℤ_}
 use Rattle.bits.specs.Bits.{pick}
 use Rattle.descriptor.specs.declared.entry.Geometry.{Geometry}
+use Rattle.level.specs.declared.granule.Granule.{Granule}
 
 -- what a code of IPS or PS says of the output size (01, Walk, output size)
 unfoldable pub codedSize : ℕ → ℕ
@@ -14,10 +15,6 @@ codedSize code = pick (eqb code 0) 32 (pick (eqb code 1) 36 (pick (eqb code 2) 4
 unfoldable pub outputSize : (pamax code : ℕ) → ℕ
 outputSize pamax code = pick (leb pamax (codedSize code)) pamax (codedSize code)
 
--- the 4KB granule: 512 entries a table, blocks from level 1
-abbrev pub fourK : (input output : ℕ) → Geometry
-fourK input output = record { grainsize = 12; stride = 9; inputsize = input; outputsize = output; block = 2; contiguous = 34 }
-
 -- the input size of a size field (01, Walk, input size)
 abbrev pub inputSize : ℕ → ℕ
 inputSize tnsz = 64 - tnsz
@@ -26,9 +23,9 @@ inputSize tnsz = 64 - tnsz
 unfoldable pub start1 : Geometry → ℤ
 start1 g = pos 4 -ℤ pos ((g .inputsize - g .grainsize + (g .stride - 1)) / g .stride)
 
--- stage 2's start level, -1 for an SL0 of 3 (01, Walk, start level)
-unfoldable pub start2 : (sl0 : ℕ) → ℤ
-start2 sl0 = pos 2 -ℤ pos sl0
+-- stage 2's start level: 2 - SL0 for 4KB, -1 for an SL0 of 3 (01, Walk, start level), and 3 - SL0 for the others (02, §3)
+unfoldable pub start2 : Granule → (sl0 : ℕ) → ℤ
+start2 k sl0 = pos (2 + k .first) -ℤ pos sl0
 
 -- the size check (01, Walk, start level): the bits of a root's index, below 1 where the start level is too high for the size
 unfoldable pub sizeCheck : Geometry → (start : ℤ) → ℤ

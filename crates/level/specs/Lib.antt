@@ -1,1 +1,2 @@
+pub mod Granule
 pub mod Level

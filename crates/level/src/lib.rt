@@ -2,8 +2,12 @@
 ghost use mathlib.Core.Path.{_≡_};
 ghost use Prim.Native.Nat.{ℕ, _+_, _-_, _/_, _%_, _≤_};
 ghost use Rattle.registers.specs.Vtcr as VtcrFields;
+ghost use Rattle.level.specs.Granule.{Granular, strideOf, geometryOf};
 ghost use Rattle.level.specs.Level as Level;
+use crate::granule::Granule;
 use registers::vtcr::Vtcr;
+
+pub mod granule;
 
 // What IPS or PS says of the output size. 6 and 7 are no codes.
 fn coded_size(code: u64) -> u64
@@ -27,35 +31,39 @@ pub fn output_size(pamax: u64, code: u64) -> u64
     if pamax <= coded { pamax } else { coded }
 }
 
-// Stage 2's start level, -1 for an SL0 of 3.
-pub fn start2(vtcr: Vtcr) -> i64
-    ensures { λ r. ⌜ r ≡ Level.start2 (VtcrFields.sl0 vtcr) ⌝ }
+// Stage 2's start level: -1 for an SL0 of 3 and 4KB.
+pub fn start2(k: Granule, vtcr: Vtcr) -> i64
+    requires { ⌜ Granular k ⌝ }
+    ensures { λ r. ⌜ r ≡ Level.start2 k (VtcrFields.sl0 vtcr) ⌝ }
 {
-    2 - vtcr.sl0() as i64
+    (2 + k.first) as i64 - vtcr.sl0() as i64
 }
 
 // The levels below stage 1's start level, by a size field of six bits: one fewer than the strides. No output size counts.
-pub fn below_start1(tnsz: u64) -> u64
-    ensures { λ r. ⌜ ((output : ℕ) → r ≡ Level.levelsBelow (Level.start1 (Level.fourK (Level.inputSize (tnsz % 64)) output))) × (r ≤ 8) ⌝ }
+pub fn below_start1(k: Granule, tnsz: u64) -> u64
+    requires { ⌜ Granular k ⌝ }
+    ensures { λ r. ⌜ ((output : ℕ) → r ≡ Level.levelsBelow (Level.start1 (geometryOf k (Level.inputSize (tnsz % 64)) output))) × (r ≤ 8) ⌝ }
 {
-    less(strides(64 - tnsz % 64), 1)
+    less(strides(k, 64 - tnsz % 64), 1)
 }
 
 // The strides that the input bits above the granule take, rounded up.
-fn strides(size: u64) -> u64
-    requires { ⌜ size ≤ 64 ⌝ }
-    ensures { λ r. ⌜ r ≡ (size - 12 + 8) / 9 ⌝ }
+fn strides(k: Granule, size: u64) -> u64
+    requires { ⌜ Granular k × (size ≤ 64) ⌝ }
+    ensures { λ r. ⌜ r ≡ (size - k .log + (strideOf k - 1)) / strideOf k ⌝ }
 {
-    (less(size, 12) + 8) / 9
+    let stride = k.log - 3;
+    (less(size, k.log) + (stride - 1)) / stride
 }
 
 // The bits of stage 2's root index, below 1 where the start level is too high for the size. No output size counts.
-pub fn size_check(vtcr: Vtcr) -> i64
-    ensures { λ r. ⌜ ((output : ℕ) → r ≡ Level.sizeCheck (Level.fourK (Level.inputSize (VtcrFields.t0sz vtcr)) output) (Level.start2 (VtcrFields.sl0 vtcr))) ⌝ }
+pub fn size_check(k: Granule, vtcr: Vtcr) -> i64
+    requires { ⌜ Granular k ⌝ }
+    ensures { λ r. ⌜ ((output : ℕ) → r ≡ Level.sizeCheck (geometryOf k (Level.inputSize (VtcrFields.t0sz vtcr)) output) (Level.start2 k (VtcrFields.sl0 vtcr))) ⌝ }
 {
     let size = (64 - vtcr.t0sz()) as i64;
-    let start = start2(vtcr);
-    size - ((3 - start) * 9 + 12)
+    let stride = (k.log - 3) as i64;
+    size - ((3 - start2(k, vtcr)) * stride + k.log as i64)
 }
 
 // 3 less a level, and 0 past level 3.

@@ -11,7 +11,7 @@ use lib.ListN.{length, getD, drop, drop-of-length-le}
 use lib.Seq.{drop-cons}
 use borrow.Author.Tests.{leb-true, eqb-true}
 use Rattle.bits.proofs.Tests.{and-left, and-right}
-use Rattle.lists.specs.Lists.{zip, all, wholeFrames, grantFits, tableFits, grantsFormed, tablesFormed}
+use Rattle.lists.specs.Lists.{zip, all, wholeFrames, grantFits, tableFits, grantsFormed, tablesFormed, Tables}
 
 -- the pair at a place
 abbrev pub at : List ℕ → List ℕ → ℕ → ℕ × ℕ
@@ -65,6 +65,6 @@ pub grants-fit : {grants counts : List ℕ} → grantsFormed grants counts ≡ t
 unfolding grantsFormed
 grants-fit e = fitting _ _ _ _ _ e
 
-pub tables-fit : {tables levels : List ℕ} → tablesFormed tables levels ≡ true → Fitting tableFits tables levels
+pub tables-fit : {tables levels : List ℕ} (t : Tables tables levels) → Fitting (tableFits (t .size)) tables levels
 unfolding tablesFormed
-tables-fit e = fitting _ _ _ _ _ e
+tables-fit t = fitting _ _ _ _ _ (t .formed)

@@ -2,7 +2,8 @@
 -- Assumes nothing.
 use mathlib.Core.Bool.{Bool, true, _&&_, _||_}
 use mathlib.Core.List.{List, [], _∷_}
-use Prim.Native.Nat.{ℕ, _+_, _%_, _^_}
+use mathlib.Core.Path.{_≡_}
+use Prim.Native.Nat.{ℕ, _+_, _%_, _^_, _<_}
 use lib.Dec.{ltb, leb, eqb}
 use lib.ListN.{length}
 
@@ -32,8 +33,11 @@ mostGrants = 256
 abbrev pub mostTables : ℕ
 mostTables = 1024
 
+abbrev pub isMultiple : (n size : ℕ) → Bool
+isMultiple n size = eqb (n % size) 0
+
 abbrev pub wholeFrames : ℕ → Bool
-wholeFrames n = eqb (n % 4096) 0
+wholeFrames n = isMultiple n 4096
 
 -- a grant of one frame or more, ending by 2^48
 unfoldable pub grantFits : ℕ × ℕ → Bool
@@ -43,9 +47,9 @@ grantFits e = wholeFrames (e .0) && wholeFrames (e .1) && leb 4096 (e .1) && leb
 unfoldable pub grantBefore : ℕ × ℕ → ℕ × ℕ → Bool
 grantBefore e d = ltb (e .0 + e .1) (d .0)
 
--- a table of one frame, ending by 2^48, at level 1 to 3
-unfoldable pub tableFits : ℕ × ℕ → Bool
-tableFits e = wholeFrames (e .0) && leb (e .0 + 4096) (2 ^ 48) && leb 1 (e .1) && leb (e .1) 3
+-- a table of some bytes, aligned to them and ending by 2^48, at level 1 to 3 (02, §3: a table is one granule)
+unfoldable pub tableFits : (size : ℕ) → ℕ × ℕ → Bool
+tableFits size e = isMultiple (e .0) size && leb (e .0 + size) (2 ^ 48) && leb 1 (e .1) && leb (e .1) 3
 
 -- by address, then level
 unfoldable pub tableBefore : ℕ × ℕ → ℕ × ℕ → Bool
@@ -55,10 +59,16 @@ unfoldable pub grantsFormed : (grants counts : List ℕ) → Bool
 grantsFormed grants counts =
     eqb (length grants) (length counts) && leb (length grants) mostGrants && all grantFits (zip grants counts) && ascends grantBefore (zip grants counts)
 
-unfoldable pub tablesFormed : (tables levels : List ℕ) → Bool
-tablesFormed tables levels =
-    eqb (length tables) (length levels) && leb (length tables) mostTables && all tableFits (zip tables levels) && ascends tableBefore (zip tables levels)
+unfoldable pub tablesFormed : (size : ℕ) (tables levels : List ℕ) → Bool
+tablesFormed size tables levels =
+    eqb (length tables) (length levels) && leb (length tables) mostTables && all (tableFits size) (zip tables levels) && ascends tableBefore (zip tables levels)
 
--- the four lists are well formed; otherwise 15
-unfoldable pub wellFormed : (grants counts tables levels : List ℕ) → Bool
-wellFormed grants counts tables levels = grantsFormed grants counts && tablesFormed tables levels
+-- the four lists are well formed, with tables of some bytes; otherwise 15
+unfoldable pub wellFormed : (size : ℕ) (grants counts tables levels : List ℕ) → Bool
+wellFormed size grants counts tables levels = grantsFormed grants counts && tablesFormed size tables levels
+
+-- For the contracts of searches: tables that are well formed, of whatever size
+pub record Tables (tables levels : List ℕ) : Type 0 where
+  pub size : ℕ
+  pub some : 0 < size
+  pub formed : tablesFormed size tables levels ≡ true

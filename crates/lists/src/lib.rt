@@ -13,10 +13,17 @@ pub const MOST_GRANTS: usize = 256;
 
 pub const MOST_TABLES: usize = 1024;
 
+fn is_multiple(n: u64, size: u64) -> bool
+    requires { ⌜ 0 < size ⌝ }
+    ensures { λ r. ⌜ r ≡ Lists.isMultiple n size ⌝ }
+{
+    n % size == 0
+}
+
 fn whole_frames(n: u64) -> bool
     ensures { λ r. ⌜ r ≡ Lists.wholeFrames n ⌝ }
 {
-    n % 4096 == 0
+    is_multiple(n, 4096)
 }
 
 // n bytes from an address end by 2^48. No sum wraps.
@@ -37,10 +44,12 @@ fn grant_fits(address: u64, count: u64) -> bool
     whole_frames(address) & whole_frames(count) & (4096 <= count) & ends_low(address, count)
 }
 
-fn table_fits(address: u64, level: u64) -> bool
-    ensures { λ r. ⌜ r ≡ Lists.tableFits (address, level) ⌝ }
+// A table of some bytes, at multiples of which it lies.
+fn table_fits(size: u64, address: u64, level: u64) -> bool
+    requires { ⌜ 0 < size ⌝ }
+    ensures { λ r. ⌜ r ≡ Lists.tableFits size (address, level) ⌝ }
 {
-    whole_frames(address) & ends_low(address, 4096) & (1 <= level) & (level <= 3)
+    is_multiple(address, size) & ends_low(address, size) & (1 <= level) & (level <= 3)
 }
 
 // A gap lies between a grant and the next.
@@ -86,13 +95,13 @@ fn grants_ascend(grants: &[u64], counts: &[u64]) -> bool
     true
 }
 
-fn tables_ascend(tables: &[u64], levels: &[u64]) -> bool
-    requires { ⌜ length (now levels) ≡ length (now tables) ⌝ }
-    ensures { λ r. ⌜ r ≡ (Lists.all Lists.tableFits (Lists.zip (now (tables .entry)) (now (levels .entry))) && Lists.ascends Lists.tableBefore (Lists.zip (now (tables .entry)) (now (levels .entry)))) ⌝ }
+fn tables_ascend(size: u64, tables: &[u64], levels: &[u64]) -> bool
+    requires { ⌜ (0 < size) × (length (now levels) ≡ length (now tables)) ⌝ }
+    ensures { λ r. ⌜ r ≡ (Lists.all (Lists.tableFits size) (Lists.zip (now (tables .entry)) (now (levels .entry))) && Lists.ascends Lists.tableBefore (Lists.zip (now (tables .entry)) (now (levels .entry)))) ⌝ }
 {
     let mut i = 0;
     while i < tables.len() {
-        if !table_fits(tables[i], levels[i]) {
+        if !table_fits(size, tables[i], levels[i]) {
             return false;
         }
         if !table_leads(tables, levels, i) {
@@ -115,8 +124,9 @@ fn grants_formed(grants: &[u64], counts: &[u64]) -> bool
     grants_ascend(grants, counts)
 }
 
-fn tables_formed(tables: &[u64], levels: &[u64]) -> bool
-    ensures { λ r. ⌜ r ≡ Lists.tablesFormed (now (tables .entry)) (now (levels .entry)) ⌝ }
+fn tables_formed(size: u64, tables: &[u64], levels: &[u64]) -> bool
+    requires { ⌜ 0 < size ⌝ }
+    ensures { λ r. ⌜ r ≡ Lists.tablesFormed size (now (tables .entry)) (now (levels .entry)) ⌝ }
 {
     if tables.len() != levels.len() {
         return false;
@@ -124,15 +134,22 @@ fn tables_formed(tables: &[u64], levels: &[u64]) -> bool
     if MOST_TABLES < tables.len() {
         return false;
     }
-    tables_ascend(tables, levels)
+    tables_ascend(size, tables, levels)
 }
 
-// The four lists are well formed; otherwise the audit is refused by 15.
-pub fn well_formed(grants: &[u64], counts: &[u64], tables: &[u64], levels: &[u64]) -> bool
-    ensures { λ r. ⌜ r ≡ Lists.wellFormed (now (grants .entry)) (now (counts .entry)) (now (tables .entry)) (now (levels .entry)) ⌝ }
+// The four lists are well formed, with tables of some bytes; otherwise the audit is refused by 15.
+pub fn well_formed(
+    size: u64,
+    grants: &[u64],
+    counts: &[u64],
+    tables: &[u64],
+    levels: &[u64],
+) -> bool
+    requires { ⌜ 0 < size ⌝ }
+    ensures { λ r. ⌜ r ≡ Lists.wellFormed size (now (grants .entry)) (now (counts .entry)) (now (tables .entry)) (now (levels .entry)) ⌝ }
 {
     if grants_formed(grants, counts) {
-        tables_formed(tables, levels)
+        tables_formed(size, tables, levels)
     } else {
         false
     }

@@ -4,7 +4,7 @@ ghost use mathlib.Core.Path.{_≡_};
 ghost use mathlib.Core.Bool.{true, _&&_};
 ghost use Prim.Native.Nat.{_+_, _^_, _≤_, _<_};
 ghost use lib.Dec.{ltb, leb, eqb};
-ghost use Rattle.lists.specs.Lists.{zip, grantsFormed, tablesFormed};
+ghost use Rattle.lists.specs.Lists.{zip, grantsFormed, Tables};
 ghost use Rattle.lists.specs.Search as Search;
 
 // A grant has all bytes from an address up to an end.
@@ -63,7 +63,7 @@ pub fn touches(grants: &[u64], counts: &[u64], address: u64, n: u64) -> bool
 
 // A table is listed at a level.
 pub fn is_listed(tables: &[u64], levels: &[u64], table: u64, level: u64) -> bool
-    requires { ⌜ tablesFormed (now tables) (now levels) ≡ true ⌝ }
+    requires { ⌜ Tables (now tables) (now levels) ⌝ }
     ensures { λ r. ⌜ r ≡ Search.isListed (zip (now (tables .entry)) (now (levels .entry))) table level ⌝ }
 {
     let mut i = 0;

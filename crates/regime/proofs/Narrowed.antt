@@ -24,7 +24,7 @@ use Rattle.registers.specs.Tcr
 use Rattle.registers.specs.declared.El1.{El1}
 use Rattle.registers.specs.declared.El2.{El2}
 use Rattle.settings.specs.Settings.{stage1On, stage2On, settings}
-use Rattle.regime.specs.Roots.{geometry1, rangeOf, root2, stage1, stage2}
+use Rattle.regime.specs.Roots.{lowerGeometry, upperGeometry, rangeOf, stage1, stage2}
 use Rattle.regime.specs.Calls.{leftOut, narrowed1, narrowed2}
 use Rattle.regime.proofs.Settings.{lower-sized, upper-sized, lower-kept, upper-kept}
 use Rattle.regime.proofs.Ready.{narrow1}
@@ -72,12 +72,12 @@ module _ (r : El2) (g : El1) (accepted : settings r g ≡ 0) (lower upper : Bool
     upper-same : upper ≡ true → (out : Bool) → rootAt (narrowed1 lower upper r g) (pick out Neither Upper) ≡ rootAt (stage1 r g) (pick out Neither Upper)
     unfolding pick rootAt stage1
     upper-same e true = refl
-    upper-same e false = ap (λ z. rangeOf (geometry1 r g (Tcr.t1sz (g .tcr))) z (g .ttbr1) .root) (kept (stage1On r g) upper (Tcr.epd1 (g .tcr)) on e)
+    upper-same e false = ap (λ z. rangeOf (upperGeometry r g) z (g .ttbr1) .root) (kept (stage1On r g) upper (Tcr.epd1 (g .tcr)) on e)
 
     lower-same : lower ≡ true → (out : Bool) → rootAt (narrowed1 lower upper r g) (pick out Neither Lower) ≡ rootAt (stage1 r g) (pick out Neither Lower)
     unfolding pick rootAt stage1
     lower-same e true = refl
-    lower-same e false = ap (λ z. rangeOf (geometry1 r g (Tcr.t0sz (g .tcr))) z (g .ttbr0) .root) (kept (stage1On r g) lower (Tcr.epd0 (g .tcr)) on e)
+    lower-same e false = ap (λ z. rangeOf (lowerGeometry r g) z (g .ttbr0) .root) (kept (stage1On r g) lower (Tcr.epd0 (g .tcr)) on e)
 
     by-bit : (b : Bool) → bit a 55 ≡ b → rootAt (narrowed1 lower upper r g) (rangeAt (boundsOf (stage1 r g)) a) ≡ rootAt (stage1 r g) (rangeAt (boundsOf (stage1 r g)) a)
     unfolding pick rangeAt

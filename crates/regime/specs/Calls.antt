@@ -15,7 +15,7 @@ use Rattle.registers.specs.Sctlr
 use Rattle.registers.specs.declared.El1.{El1}
 use Rattle.registers.specs.declared.El2.{El2}
 use Rattle.settings.specs.Settings.{stage1On, stage2On}
-use Rattle.regime.specs.Roots.{geometry1, rangeOf, root2}
+use Rattle.regime.specs.Roots.{lowerGeometry, upperGeometry, rangeOf, root2}
 
 -- an input size in bits that 01 accepts
 pub record Sized (s : ℕ) : Type 0 where
@@ -35,8 +35,8 @@ narrowed1 lower upper r g =
       dc = Hcr.dc (r .hcr);
       tbi0 = Tcr.tbi0 (g .tcr);
       tbi1 = Tcr.tbi1 (g .tcr);
-      lower = rangeOf (geometry1 r g (Tcr.t0sz (g .tcr))) (leftOut (stage1On r g && lower) (Tcr.epd0 (g .tcr))) (g .ttbr0);
-      upper = rangeOf (geometry1 r g (Tcr.t1sz (g .tcr))) (leftOut (stage1On r g && upper) (Tcr.epd1 (g .tcr))) (g .ttbr1);
+      lower = rangeOf (lowerGeometry r g) (leftOut (stage1On r g && lower) (Tcr.epd0 (g .tcr))) (g .ttbr0);
+      upper = rangeOf (upperGeometry r g) (leftOut (stage1On r g && upper) (Tcr.epd1 (g .tcr))) (g .ttbr1);
       mair = g .mair;
       c = Sctlr.c (g .sctlr);
       i = Sctlr.i (g .sctlr);

@@ -1,6 +1,6 @@
 // The stages of a walk, as registers give them (01, Walk).
 ghost use mathlib.Core.Path.{_≡_};
-ghost use Prim.Native.Nat.{_≤_, _<_};
+ghost use Prim.Native.Nat.{_+_, _≤_, _<_};
 ghost use mathlib.Core.Bool.{false, _&&_, _||_};
 ghost use lib.Dec.{leb};
 ghost use lib.IntN.{pos};
@@ -8,13 +8,16 @@ ghost use lib.Signed.{ltZ};
 ghost use Rattle.walk.specs.Calls.{Small, Starts, Sound2, stage2Of};
 ghost use Rattle.stages.specs.Calls.{Sound1, stage1Of, memoryOf};
 ghost use Rattle.settings.specs.Settings.{settings};
-ghost use Rattle.level.specs.Level.{fourK, inputSize};
+ghost use Rattle.level.specs.Granule.{tg0Granule, tg1Granule, strideOf, geometryOf, Granular};
+ghost use Rattle.level.specs.Level.{inputSize};
 ghost use Rattle.registers.specs.Tcr as TcrFields;
 ghost use Rattle.regime.specs.Roots as Roots;
 ghost use Rattle.regime.specs.Calls as Calls;
 ghost use Rattle.regime.specs.Calls.{Sized};
 use descriptor::entry::Geometry;
 use descriptor::turn;
+use level::granule;
+use level::granule::Granule;
 use registers::El1;
 use registers::El2;
 use stages::both::Memory;
@@ -26,21 +29,13 @@ use walk::start;
 use walk::start::Start;
 use walk::table::Table;
 
-// The root table at a base register, with n levels below it, in the 4KB granule.
-fn table_of(input: u64, output: u64, n: u64, register: u64) -> Table
-    requires { ⌜ (input ≤ 64) × (n ≤ 8) ⌝ }
-    ensures { λ r. ⌜ r ≡ Roots.tableOf (fourK input output) n register ⌝ }
+// The root table at a base register, with n levels below it.
+fn table_of(geometry: Geometry, n: u64, register: u64) -> Table
+    requires { ⌜ (geometry .grainsize ≤ 16) × (geometry .stride ≤ 13) × (geometry .inputsize ≤ 64) × (n ≤ 8) ⌝ }
+    ensures { λ r. ⌜ r ≡ Roots.tableOf geometry n register ⌝ }
 {
-    let width = level::less(input, 12 + 9 * n);
+    let width = level::less(geometry.inputsize, geometry.grainsize + geometry.stride * n);
     let base = bits::upper(register, 3 + width);
-    let geometry = Geometry {
-        grainsize: 12,
-        stride: 9,
-        inputsize: input,
-        outputsize: output,
-        block: 2,
-        contiguous: 34,
-    };
     Table {
         geometry,
         levels: n + 1,
@@ -50,18 +45,19 @@ fn table_of(input: u64, output: u64, n: u64, register: u64) -> Table
 }
 
 // The start at a base register, no bit of which may lie beyond the output size.
-fn start_from(input: u64, output: u64, n: u64, register: u64) -> Start
-    requires { ⌜ (input ≤ 64) × (n ≤ 8) × Small (Roots.tableOf (fourK input output) n register) ⌝ }
-    ensures { λ r. ⌜ Starts r (Roots.rootOf (fourK input output) n register) ⌝ }
+fn start_from(geometry: Geometry, n: u64, register: u64) -> Start
+    requires { ⌜ (geometry .inputsize ≤ 64) × (n ≤ 8) × Small (Roots.tableOf geometry n register) ⌝ }
+    ensures { λ r. ⌜ Starts r (Roots.rootOf geometry n register) ⌝ }
 {
-    if bits::beyond(register, output) {
+    if bits::beyond(register, geometry.outputsize) {
         return start::nowhere(Ending::AddressSize, 0);
     }
-    start::start_at(table_of(input, output, n, register))
+    start::start_at(table_of(geometry, n, register))
 }
 
-// What registers say of one VA range of stage 1: its size field, EPD and TTBR.
+// What registers say of one VA range of stage 1: its granule, size field, EPD and TTBR.
 struct Half {
+    granule: Granule,
     tnsz: u64,
     epd: bool,
     ttbr: u64,
@@ -76,10 +72,11 @@ fn left_out(wanted: bool, epd: bool) -> bool
 
 // What TTBR0 translates.
 fn lower_half(g: El1, wanted: bool) -> Half
-    ensures { λ r. ⌜ (r .tnsz ≡ TcrFields.t0sz (g .tcr)) × (r .epd ≡ Calls.leftOut wanted (TcrFields.epd0 (g .tcr))) × (r .ttbr ≡ g .ttbr0) ⌝ }
+    ensures { λ r. ⌜ (r .tnsz ≡ TcrFields.t0sz (g .tcr)) × (r .epd ≡ Calls.leftOut wanted (TcrFields.epd0 (g .tcr))) × (r .ttbr ≡ g .ttbr0) × (r .granule ≡ tg0Granule (TcrFields.tg0 (g .tcr))) ⌝ }
 {
     let tcr = g.tcr;
     Half {
+        granule: granule::by_tg0(tcr.tg0()),
         tnsz: tcr.t0sz(),
         epd: left_out(wanted, tcr.epd0()),
         ttbr: g.ttbr0,
@@ -88,10 +85,11 @@ fn lower_half(g: El1, wanted: bool) -> Half
 
 // What TTBR1 translates.
 fn upper_half(g: El1, wanted: bool) -> Half
-    ensures { λ r. ⌜ (r .tnsz ≡ TcrFields.t1sz (g .tcr)) × (r .epd ≡ Calls.leftOut wanted (TcrFields.epd1 (g .tcr))) × (r .ttbr ≡ g .ttbr1) ⌝ }
+    ensures { λ r. ⌜ (r .tnsz ≡ TcrFields.t1sz (g .tcr)) × (r .epd ≡ Calls.leftOut wanted (TcrFields.epd1 (g .tcr))) × (r .ttbr ≡ g .ttbr1) × (r .granule ≡ tg1Granule (TcrFields.tg1 (g .tcr))) ⌝ }
 {
     let tcr = g.tcr;
     Half {
+        granule: granule::by_tg1(tcr.tg1()),
         tnsz: tcr.t1sz(),
         epd: left_out(wanted, tcr.epd1()),
         ttbr: g.ttbr1,
@@ -100,15 +98,16 @@ fn upper_half(g: El1, wanted: bool) -> Half
 
 // The start of a VA range.
 fn start1(output: u64, h: Half) -> Start
-    requires { ⌜ (h .tnsz < 64) × (h .epd ≡ false → Sized (inputSize (h .tnsz))) ⌝ }
-    ensures { λ r. ⌜ Starts r (Roots.rangeOf (fourK (inputSize (h .tnsz)) output) (h .epd) (h .ttbr) .root) ⌝ }
+    requires { ⌜ Granular (h .granule) × (h .tnsz < 64) × (h .epd ≡ false → Sized (inputSize (h .tnsz))) ⌝ }
+    ensures { λ r. ⌜ Starts r (Roots.rangeOf (geometryOf (h .granule) (inputSize (h .tnsz)) output) (h .epd) (h .ttbr) .root) ⌝ }
 {
+    let k = h.granule;
     let tnsz = h.tnsz;
     if h.epd {
         return start::nowhere(Ending::Translation, 0);
     }
-    let n = level::below_start1(tnsz);
-    start_from(64 - tnsz, output, n, h.ttbr)
+    let n = level::below_start1(k, tnsz);
+    start_from(granule::geometry(k, 64 - tnsz, output), n, h.ttbr)
 }
 
 // Stage 1 for walks, with the VA ranges that are wanted. With stage 1 off there is no walk.
@@ -141,11 +140,35 @@ pub fn prepared1(r: El2, g: El1, lower: bool, upper: bool) -> Prepared1
     }
 }
 
-// Stage 2 starts at no level below 0, at level 0 only where PAMax is over 42, and with 1 to 13 index bits.
-fn startless(start: i64, bits: i64, pamax: u64) -> bool
-    ensures { λ r. ⌜ r ≡ (ltZ start (pos 0) || (ltZ start (pos 1) && leb pamax 42) || ltZ bits (pos 1) || ltZ (pos 13) bits) ⌝ }
+// Stage 2's granule.
+fn granule2(r: El2) -> Granule
+    ensures { λ k. ⌜ (k ≡ Roots.granule2 r) × Granular k ⌝ }
 {
-    (start < 0) | (start < 1) & (pamax <= 42) | (bits < 1) | (13 < bits)
+    let vtcr = r.vtcr;
+    granule::by_tg0(vtcr.tg0())
+}
+
+// The bytes of a table below stage 2's root.
+pub fn table_size(r: El2) -> u64
+    ensures { λ n. ⌜ (n ≡ Roots.tableSize r) × (0 < n) ⌝ }
+{
+    let k = granule2(r);
+    if settings::stage2_on(r) {
+        1 << k.log
+    } else {
+        4096
+    }
+}
+
+// Stage 2 starts at no level before its granule's first, there only where PAMax is over a limit, and with 1 to the stride and 4 index bits.
+fn startless(k: Granule, start: i64, bits: i64, pamax: u64) -> bool
+    requires { ⌜ Granular k ⌝ }
+    ensures { λ r. ⌜ r ≡ (ltZ start (pos (k .first)) || (ltZ start (pos (k .first + 1)) && leb pamax (k .over)) || ltZ bits (pos 1) || ltZ (pos (strideOf k + 4)) bits) ⌝ }
+{
+    let first = k.first as i64;
+    let second = (k.first + 1) as i64;
+    let most = (k.log - 3 + 4) as i64;
+    (start < first) | (start < second) & (pamax <= k.over) | (bits < 1) | (most < bits)
 }
 
 // Stage 2's start.
@@ -153,17 +176,14 @@ pub fn start2(r: El2) -> Start
     ensures { λ s. ⌜ Starts s (Roots.root2 r) ⌝ }
 {
     let vtcr = r.vtcr;
-    let start = level::start2(vtcr);
-    if startless(start, level::size_check(vtcr), r.pamax) {
+    let k = granule2(r);
+    let start = level::start2(k, vtcr);
+    if startless(k, start, level::size_check(k, vtcr), r.pamax) {
         return start::nowhere(Ending::Translation, 0);
     }
     let n = level::levels_below(start);
-    start_from(
-        64 - vtcr.t0sz(),
-        level::output_size(r.pamax, vtcr.ps()),
-        n,
-        r.vttbr,
-    )
+    let output = level::output_size(r.pamax, vtcr.ps());
+    start_from(granule::geometry(k, 64 - vtcr.t0sz(), output), n, r.vttbr)
 }
 
 // Stage 2 for walks. Where it is off no walk starts and there is no IPA. (Where the limit was 2 to a size in any case, the compiler would

@@ -24,6 +24,13 @@ listedPamax n = eqb n 32 || eqb n 36 || eqb n 40 || eqb n 42 || eqb n 44 || eqb 
 abbrev pub listedSizeField : ℕ → Bool
 listedSizeField n = leb 16 n && leb n 39
 
+-- codes of two bits that name a granule (02, §3): 3 is reserved in TG0, 0 in TG1
+abbrev pub listedTg0 : ℕ → Bool
+listedTg0 code = leb code 2
+
+abbrev pub listedTg1 : ℕ → Bool
+listedTg1 code = leb 1 code
+
 -- what is asked only where a test holds
 abbrev pub implies : Bool → Bool → Bool
 implies test asked = not test || asked
@@ -40,12 +47,12 @@ item5 r g = implies (stage1On r g) (leb (Tcr.ips (g .tcr)) 5)
 abbrev pub item6 : El2 → El1 → Bool
 item6 r g =
     implies (stage1On r g && not (Tcr.epd0 (g .tcr)))
-    (listedSizeField (Tcr.t0sz (g .tcr)) && eqb (Tcr.tg0 (g .tcr)) 0)
+    (listedSizeField (Tcr.t0sz (g .tcr)) && listedTg0 (Tcr.tg0 (g .tcr)))
 
 abbrev pub item7 : El2 → El1 → Bool
 item7 r g =
     implies (stage1On r g && not (Tcr.epd1 (g .tcr)))
-    (listedSizeField (Tcr.t1sz (g .tcr)) && eqb (Tcr.tg1 (g .tcr)) 2)
+    (listedSizeField (Tcr.t1sz (g .tcr)) && listedTg1 (Tcr.tg1 (g .tcr)))
 
 abbrev pub item8 : El2 → Bool
 item8 r = implies (stage2On r) (leb (Vtcr.ps (r .vtcr)) 5)
@@ -53,7 +60,7 @@ item8 r = implies (stage2On r) (leb (Vtcr.ps (r .vtcr)) 5)
 abbrev pub item9 : El2 → Bool
 item9 r =
     implies (stage2On r)
-    (listedSizeField (Vtcr.t0sz (r .vtcr)) && eqb (Vtcr.tg0 (r .vtcr)) 0 && leb (64 - Vtcr.t0sz (r .vtcr)) (r .pamax))
+    (listedSizeField (Vtcr.t0sz (r .vtcr)) && listedTg0 (Vtcr.tg0 (r .vtcr)) && leb (64 - Vtcr.t0sz (r .vtcr)) (r .pamax))
 
 -- the number of the first item that does not hold, or 0
 unfoldable pub firstFailing : List (ℕ × Bool) → ℕ

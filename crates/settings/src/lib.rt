@@ -3,7 +3,7 @@ ghost use mathlib.Core.Path.{_≡_};
 ghost use mathlib.Core.Bool.{not, _&&_};
 ghost use mathlib.Core.List.{[], _∷_};
 ghost use Prim.Native.Nat.{_-_};
-ghost use lib.Dec.{leb, eqb};
+ghost use lib.Dec.{leb};
 ghost use Rattle.settings.specs.Settings as Settings;
 ghost use Rattle.registers.specs.Tcr as TcrFields;
 ghost use Rattle.registers.specs.Vtcr as VtcrFields;
@@ -62,34 +62,47 @@ fn item4_el2(r: El2) -> bool
     !stage2_on(r) | !sctlr.ee()
 }
 
-// Items 6 and 7, of a stage 1 that is on: a VA range that is walked has an accepted size and the 4KB granule, which is 0 in TG0 and 2 in TG1.
+// A code that names a granule; 3 is reserved in TG0, 0 in TG1.
+fn listed_tg0(code: u64) -> bool
+    ensures { λ yes. ⌜ yes ≡ Settings.listedTg0 code ⌝ }
+{
+    code <= 2
+}
+
+fn listed_tg1(code: u64) -> bool
+    ensures { λ yes. ⌜ yes ≡ Settings.listedTg1 code ⌝ }
+{
+    1 <= code
+}
+
+// Items 6 and 7, of a stage 1 that is on: a VA range that is walked has an accepted size and a granule.
 fn item6(tcr: Tcr) -> bool
     ensures { λ yes. ⌜ yes ≡
-        Settings.implies (not (TcrFields.epd0 tcr)) (Settings.listedSizeField (TcrFields.t0sz tcr) && eqb (TcrFields.tg0 tcr) 0) ⌝ }
+        Settings.implies (not (TcrFields.epd0 tcr)) (Settings.listedSizeField (TcrFields.t0sz tcr) && Settings.listedTg0 (TcrFields.tg0 tcr)) ⌝ }
 {
     if tcr.epd0() {
         return true;
     }
-    listed_size_field(tcr.t0sz()) & (tcr.tg0() == 0)
+    listed_size_field(tcr.t0sz()) & listed_tg0(tcr.tg0())
 }
 
 fn item7(tcr: Tcr) -> bool
     ensures { λ yes. ⌜ yes ≡
-        Settings.implies (not (TcrFields.epd1 tcr)) (Settings.listedSizeField (TcrFields.t1sz tcr) && eqb (TcrFields.tg1 tcr) 2) ⌝ }
+        Settings.implies (not (TcrFields.epd1 tcr)) (Settings.listedSizeField (TcrFields.t1sz tcr) && Settings.listedTg1 (TcrFields.tg1 tcr)) ⌝ }
 {
     if tcr.epd1() {
         return true;
     }
-    listed_size_field(tcr.t1sz()) & (tcr.tg1() == 2)
+    listed_size_field(tcr.t1sz()) & listed_tg1(tcr.tg1())
 }
 
-// Item 9, of a stage 2 that is on: its size is accepted and no greater than PAMax, and its granule is 4KB.
+// Item 9, of a stage 2 that is on: its size is accepted and no greater than PAMax, and it has a granule.
 fn item9(vtcr: Vtcr, pamax: u64) -> bool
     ensures { λ yes. ⌜ yes ≡
-        (Settings.listedSizeField (VtcrFields.t0sz vtcr) && eqb (VtcrFields.tg0 vtcr) 0 && leb (64 - VtcrFields.t0sz vtcr) pamax) ⌝ }
+        (Settings.listedSizeField (VtcrFields.t0sz vtcr) && Settings.listedTg0 (VtcrFields.tg0 vtcr) && leb (64 - VtcrFields.t0sz vtcr) pamax) ⌝ }
 {
     let field = vtcr.t0sz();
-    listed_size_field(field) & (vtcr.tg0() == 0) & (64 - field <= pamax)
+    listed_size_field(field) & listed_tg0(vtcr.tg0()) & (64 - field <= pamax)
 }
 
 // The first of items 1 to 3 that does not hold, or 0.

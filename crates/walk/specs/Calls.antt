@@ -29,7 +29,7 @@ checked (C.Stopped e) = stopped e
 pub record Small (t : Table) : Type 0 where
   pub some : 1 ≤ t .levels
   pub levels : t .levels ≤ 4
-  pub bits : t .bits ≤ 16
+  pub bits : t .bits ≤ 17
   pub base : t .base < 2 ^ 48
   pub grainsize : t .geometry .grainsize ≤ 16
   pub stride : t .geometry .stride ≤ 13
@@ -46,7 +46,7 @@ pub record Fit (p : Start) : Type 0 where
 pub record Within (p : Start) : Type 0 where
   pub shift : p .shift < 64
   pub some : 1 ≤ p .table .levels
-  pub bits : p .table .bits ≤ 16
+  pub bits : p .table .bits ≤ 17
   pub base : p .table .base < 2 ^ 48
 
 -- a start for a root

@@ -20,8 +20,7 @@ pub struct Start {
     pub masks: Masks,
 }
 
-// A start whose every walk meets a fault. Nothing goes by its sizes; they are the 4KB granule's, so that a size that all starts share is
-// none that a loop must keep.
+// A start whose every walk meets a fault. Nothing goes by its sizes.
 pub fn nowhere(ending: Ending, level: u64) -> Start
     ensures { λ r. ⌜ (r .ending ≡ ending) × (r .level ≡ level) × Within r ⌝ }
 {
@@ -30,12 +29,12 @@ pub fn nowhere(ending: Ending, level: u64) -> Start
         level,
         table: Table {
             geometry: Geometry {
-                grainsize: 12,
-                stride: 9,
+                grainsize: 0,
+                stride: 0,
                 inputsize: 0,
                 outputsize: 0,
-                block: 2,
-                contiguous: 34,
+                block: 0,
+                contiguous: 0,
             },
             levels: 1,
             bits: 0,
@@ -45,8 +44,8 @@ pub fn nowhere(ending: Ending, level: u64) -> Start
         masks: Masks {
             limit: 0,
             unsettled: 0,
-            index: 0x1ff,
-            table: 0xffff_ffff_f000,
+            index: 0,
+            table: 0,
         },
     }
 }
@@ -71,7 +70,7 @@ pub fn start_at(table: Table) -> Start
 
 // Where the root's entry for an input lies.
 pub fn first_entry(t: Table, shift: u64, input: u64) -> u64
-    requires { ⌜ (shift < 64) × (t .bits ≤ 16) × (t .base < 2 ^ 48) ⌝ }
+    requires { ⌜ (shift < 64) × (t .bits ≤ 17) × (t .base < 2 ^ 48) ⌝ }
     ensures { λ r. ⌜ r ≡ t .base + 8 * field input shift (t .bits) ⌝ }
 {
     let base = t.base;

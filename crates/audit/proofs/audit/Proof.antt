@@ -7,11 +7,11 @@ use Prim.Native.Nat.{_+_, _^_}
 use native.Mathlib.Omega.{arith}
 use lib.ListN.{length}
 use Rattle.capture.specs.Capture.{captured}
-use Rattle.lists.specs.Lists.{zip}
+use Rattle.lists.specs.Lists.{zip, wellFormed}
 use Rattle.walk.specs.Calls.{Fit}
 use Rattle.walk.specs.declared.table.Root.the-variants.{Usable}
 use Rattle.walk.proofs.Ends.{starts-usable, starts-unusable}
-use Rattle.regime.specs.Roots.{root2}
+use Rattle.regime.specs.Roots.{tableSize, root2}
 use Rattle.audit.specs.Audit.{auditFrom, audit}
 use Rattle.audit.proofs.Calls.{formed}
 use Rattle.audit.proofs.Confinement.{confinement}
@@ -24,18 +24,24 @@ returns-2 c =
     let h = c .before .before in
     (told-item _ _ _ _ _ _ _ (sym (h .before .ends-high .ensures) ∙ h .if1 .left) _ (c .before .of-audit .ensures) (c .if2 .taken), λ other. confinement _ _ _ _ _ _ _ _)
 
+-- what the lists' test says, with tables of the size that it was given
+lists : (c : tie.After-well-formed) →
+    let z = c .before .before .before .before .before .before .before .before .before .before .before .args in
+    c .well-formed .result ≡ wellFormed (tableSize (z .r)) (z .grants .now) (z .counts .now) (z .tables .now) (z .levels .now)
+lists c = rw (c .before .table-size .ensures .0) at (c .well-formed .ensures)
+
 returns-3 : tie.Need-returns-3
 returns-3 c =
-    let s = c .before .before in
+    let s = c .before .before .before in
     let h = s .before .before in
-    (told-lists _ _ _ _ _ _ _ (sym (h .before .ends-high .ensures) ∙ h .if1 .left) (sym (s .before .of-audit .ensures) ∙ s .if2 .left) (sym (c .before .well-formed .ensures) ∙ not-true _ (c .if3 .taken)), λ other. confinement _ _ _ _ _ _ _ _)
+    (told-lists _ _ _ _ _ _ _ (sym (h .before .ends-high .ensures) ∙ h .if1 .left) (sym (s .before .of-audit .ensures) ∙ s .if2 .left) (sym (lists (c .before)) ∙ not-true _ (c .if3 .taken)), λ other. confinement _ _ _ _ _ _ _ _)
 
 returns-4 : tie.Need-returns-4
 returns-4 c =
     let l = c .before .before in
-    let s = l .before .before in
+    let s = l .before .before .before in
     let h = s .before .before in (
-      told-off _ _ _ _ _ _ _ (sym (h .before .ends-high .ensures) ∙ h .if1 .left) (sym (s .before .of-audit .ensures) ∙ s .if2 .left) (sym (l .before .well-formed .ensures) ∙ not-false _ (l .if3 .left))
+      told-off _ _ _ _ _ _ _ (sym (h .before .ends-high .ensures) ∙ h .if1 .left) (sym (s .before .of-audit .ensures) ∙ s .if2 .left) (sym (lists (l .before)) ∙ not-false _ (l .if3 .left))
           (sym (c .before .stage2-on .ensures) ∙ not-true _ (c .if4 .taken)),
       λ other. confinement _ _ _ _ _ _ _ _,
     )
@@ -43,19 +49,19 @@ returns-4 c =
 -- ---- from stage 2's root
 
 told : (c : tie.After-start2) →
-    let z = c .before .before .before .before .before .before .before .before .before .before .before .before .before .before .args in
+    let z = c .before .before .before .before .before .before .before .before .before .before .before .before .before .before .before .args in
     auditFrom (captured (z .base) (z .bytes .now)) (zip (z .grants .now) (z .counts .now)) (zip (z .tables .now) (z .levels .now)) (root2 (z .r))
     ≡ audit (z .base) (z .bytes .now) (z .r) (z .grants .now) (z .counts .now) (z .tables .now) (z .levels .now)
 told c =
     let o = c .before in
     let l = o .before .before in
-    let s = l .before .before in
+    let s = l .before .before .before in
     let h = s .before .before in
-    told-from _ _ _ _ _ _ _ (sym (h .before .ends-high .ensures) ∙ h .if1 .left) (sym (s .before .of-audit .ensures) ∙ s .if2 .left) (sym (l .before .well-formed .ensures) ∙ not-false _ (l .if3 .left))
+    told-from _ _ _ _ _ _ _ (sym (h .before .ends-high .ensures) ∙ h .if1 .left) (sym (s .before .of-audit .ensures) ∙ s .if2 .left) (sym (lists (l .before)) ∙ not-false _ (l .if3 .left))
     (sym (o .before .stage2-on .ensures) ∙ not-false _ (o .if4 .left))
 
 usable : (c : tie.Else5) →
-    let z = c .before .before .before .before .before .before .before .before .before .before .before .before .before .before .before .before .args in
+    let z = c .before .before .before .before .before .before .before .before .before .before .before .before .before .before .before .before .before .args in
     (root2 (z .r) ≡ Usable (c .before .before .start2 .result .table)) × Fit (c .before .before .start2 .result)
 usable c = starts-usable _ _ (c .before .before .start2 .ensures) (sym (c .before .passed .ensures) ∙ not-false _ (c .if5 .left))
 
@@ -63,7 +69,7 @@ returns-5 : tie.Need-returns-5
 unfolding auditFrom
 returns-5 c =
     let s = c .before .before in
-    let z = s .before .before .before .before .before .before .before .before .before .before .before .before .before .before .args in
+    let z = s .before .before .before .before .before .before .before .before .before .before .before .before .before .before .before .args in
     let u = starts-unusable (s .start2 .result) (root2 (z .r)) (s .start2 .ensures) (sym (c .before .passed .ensures) ∙ not-true _ (c .if5 .taken)) in
     (rw (u .1) at (told s), λ other. confinement _ _ _ _ _ _ _ _)
 
@@ -71,9 +77,9 @@ from-root-requires : tie.Need-from-root-requires
 from-root-requires c κs =
     let s = c .before .before .before in
     let l = s .before .before .before in
-    let h = l .before .before .before .before in
+    let h = l .before .before .before .before .before in
     let z = h .before .before .before .before .before .before .before .args in (
-      formed _ _ _ _ (sym (l .before .well-formed .ensures) ∙ not-false _ (l .if3 .left)),
+      formed _ _ _ _ _ (l .before .before .table-size .ensures .1) (sym (l .before .well-formed .ensures) ∙ not-false _ (l .if3 .left)),
       usable (c .before) .1 .small,
       omega (arith, ltb-false (2 ^ 48) (z .base + length (z .bytes .now)) (sym (h .before .ends-high .ensures) ∙ h .if1 .left)),
     )
@@ -91,6 +97,7 @@ audit-spec =
     (λ c. (told-high _ _ _ _ _ _ _ (sym (c .before .ends-high .ensures) ∙ c .if1 .taken), λ other. confinement _ _ _ _ _ _ _ _))
     (λ c κs. search needs)
     returns-2
+    (λ c κs. search needs)
     (λ c κs. search needs)
     returns-3
     (λ c κs. search needs)

@@ -1,6 +1,7 @@
 -- `start2` meets its contract: SL0 has two bits. Assumes nothing.
 use borrow.Author.Needs.{needs}
 use mathlib.Core.Path.{ap, _∙_}
+use Prim.Native.Nat.{_+_}
 use native.Mathlib.Omega.{arith}
 use lib.IntN.{pos, _-ℤ_}
 use Rattle.level.specs.Level.{start2}
@@ -13,7 +14,9 @@ unfolding start2
 start2-spec =
     tie.close
     (tie.spec
+    (λ c. search needs)
+    (λ c. search needs)
     (λ c κs. tt)
     (λ c. search needs)
-    (λ c. less-fits _ (c .sl0 .result) (omega arith) (omega arith))
-    (λ c. less-is _ (c .sl0 .result) (omega arith) (omega arith) ∙ ap (λ n. pos 2 -ℤ pos n) (c .sl0 .ensures)))
+    (λ c. let k = c .before .before in less-fits (2 + k .args .k .first) (c .sl0 .result) (omega (arith, k .pre .first)) (omega arith))
+    (λ c. let k = c .before .before in less-is (2 + k .args .k .first) (c .sl0 .result) (omega (arith, k .pre .first)) (omega arith) ∙ ap (λ n. pos (2 + k .args .k .first) -ℤ pos n) (c .sl0 .ensures)))

@@ -6,4 +6,4 @@ use Rattle.lists.proofs.table_fits.Tie as tie
 
 pub table-fits-spec : {M : Type 1} → statement M
 unfolding tableFits
-table-fits-spec = tie.close (tie.spec (λ c κs. tt) (λ c κs. tt) (λ c. rw (c .before .whole-frames .ensures, c .ends-low .ensures)))
+table-fits-spec = tie.close (tie.spec (λ c κs. c .pre) (λ c κs. tt) (λ c. rw (c .before .is-multiple .ensures, c .ends-low .ensures)))

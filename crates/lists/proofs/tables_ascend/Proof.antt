@@ -11,10 +11,10 @@ use Rattle.lists.proofs.tables_ascend.Statement.{statement}
 use Rattle.lists.proofs.tables_ascend.Tie as tie
 
 abbrev Inv-loop : tie.InvT-loop
-Inv-loop tables levels i₀ i = Deciding tableFits tableBefore tables levels i
+Inv-loop size tables levels i₀ i = Deciding (tableFits size) tableBefore tables levels i
 
 abbrev μ-loop : tie.MeasureT-loop
-μ-loop tables levels i₀ i = length tables - i
+μ-loop size tables levels i₀ i = length tables - i
 
 pub tables-ascend-spec : {M : Type 1} → statement M
 tables-ascend-spec =

@@ -1,7 +1,13 @@
 -- `lower_half` meets its contract, by those of what it calls. Assumes nothing.
-use mathlib.Core.Path.{refl, _∙_}
+use mathlib.Core.Path.{refl}
 use Rattle.regime.proofs.lower_half.Statement.{statement}
 use Rattle.regime.proofs.lower_half.Tie as tie
 
 pub lower-half-spec : {M : Type 1} → statement M
-lower-half-spec = tie.close (tie.spec (λ c κs. tt) (λ c κs. tt) (λ c κs. tt) (λ c. (c .before .before .t0sz .ensures, rw (← c .before .epd0 .ensures) (c .left-out .ensures), refl)))
+lower-half-spec =
+    tie.close
+    (tie.spec
+    (λ c κs. tt) (λ c κs. tt) (λ c κs. tt) (λ c κs. tt) (λ c κs. tt)
+    (λ c.
+    let k = c .before .before .before in
+    (c .before .before .t0sz .ensures, rw (← c .before .epd0 .ensures) (c .left-out .ensures), refl, rw (← k .before .tg0 .ensures) (k .by-tg0 .ensures))))

@@ -8,7 +8,10 @@ use native.Mathlib.Omega.{arith}
 use Rattle.descriptor.specs.declared.entry.Geometry.{Geometry}
 use Rattle.walk.proofs.Ends.{starts-root}
 use Rattle.stages.specs.Ranges.{boundsOf}
-use Rattle.level.specs.Level.{fourK, inputSize}
+use Rattle.level.specs.Granule.{geometryOf}
+use Rattle.level.specs.declared.granule.Granule.{Granule}
+use Rattle.level.specs.Level.{inputSize}
+use Rattle.level.proofs.Granules.{tg0-granular, tg1-granular}
 use Rattle.regime.specs.Roots.{rangeOf}
 use Rattle.regime.specs.Calls.{Sized}
 use Rattle.regime.proofs.Settings.{lower-kept, upper-kept, pamax-small}
@@ -32,12 +35,12 @@ upper-size c e =
 start1-requires : tie.Need-start1-requires
 start1-requires c κs =
     let h = c .before .before .before .before .before .before in
-    (omega (arith, h .before .lower-half .ensures .0), lower-size h)
+    (rw (h .before .lower-half .ensures .3) (tg0-granular _), omega (arith, h .before .lower-half .ensures .0), lower-size h)
 
 start1-requires-2 : tie.Need-start1-requires-2
 start1-requires-2 c κs =
     let h = c .before .before .before .before .before .before .before in
-    (omega (arith, h .upper-half .ensures .0), upper-size h)
+    (rw (h .upper-half .ensures .3) (tg1-granular _), omega (arith, h .upper-half .ensures .0), upper-size h)
 
 returns : tie.Need-returns
 unfolding boundsOf
@@ -47,9 +50,9 @@ returns c =
     let h = b .before .before .before .before .before .before in
     let low = h .before .lower-half .result in
     let high = h .upper-half .result in
-    let geometry : ℕ → Geometry = λ tnsz. fourK (inputSize tnsz) (h .before .before .output-size .result) in
-    let root0 = starts-root (s .before .start1 .result) (rangeOf (geometry (low .tnsz)) (low .epd) (low .ttbr) .root) (s .before .start1 .ensures) in
-    let root1 = starts-root (s .start12 .result) (rangeOf (geometry (high .tnsz)) (high .epd) (high .ttbr) .root) (s .start12 .ensures) in (
+    let geometry : Granule → ℕ → Geometry = λ k tnsz. geometryOf k (inputSize tnsz) (h .before .before .output-size .result) in
+    let root0 = starts-root (s .before .start1 .result) (rangeOf (geometry (low .granule) (low .tnsz)) (low .epd) (low .ttbr) .root) (s .before .start1 .ensures) in
+    let root1 = starts-root (s .start12 .result) (rangeOf (geometry (high .granule) (high .tnsz)) (high .epd) (high .ttbr) .root) (s .start12 .ensures) in (
       rw (
         root0,
         root1,
@@ -63,9 +66,11 @@ returns c =
         h .before .lower-half .ensures .0,
         h .before .lower-half .ensures .1,
         h .before .lower-half .ensures .2,
+        h .before .lower-half .ensures .3,
         h .upper-half .ensures .0,
         h .upper-half .ensures .1,
         h .upper-half .ensures .2,
+        h .upper-half .ensures .3,
         h .before .before .output-size .ensures,
         h .before .before .before .ips .ensures,
         h .before .before .before .before .before .before .before .stage1-on .ensures,
@@ -73,8 +78,8 @@ returns c =
       record {
         bounds = rw (b .bounds-of .ensures);
         pamax = pamax-small _ _ (h .before .before .before .before .before .before .before .before .pre);
-        lower = λ on. (rw root0 (s .before .start1 .ensures), rw root0 (narrow1 (geometry (low .tnsz)) (low .epd) (low .ttbr) (lower-size h)));
-        upper = λ on. (rw root1 (s .start12 .ensures), rw root1 (narrow1 (geometry (high .tnsz)) (high .epd) (high .ttbr) (upper-size h)));
+        lower = λ on. (rw root0 (s .before .start1 .ensures), rw root0 (narrow1 (geometry (low .granule) (low .tnsz)) (low .epd) (low .ttbr) (lower-size h)));
+        upper = λ on. (rw root1 (s .start12 .ensures), rw root1 (narrow1 (geometry (high .granule) (high .tnsz)) (high .epd) (high .ttbr) (upper-size h)));
       },
     )
 

@@ -1,7 +1,13 @@
 -- `upper_half` meets its contract, by those of what it calls. Assumes nothing.
-use mathlib.Core.Path.{refl, _∙_}
+use mathlib.Core.Path.{refl}
 use Rattle.regime.proofs.upper_half.Statement.{statement}
 use Rattle.regime.proofs.upper_half.Tie as tie
 
 pub upper-half-spec : {M : Type 1} → statement M
-upper-half-spec = tie.close (tie.spec (λ c κs. tt) (λ c κs. tt) (λ c κs. tt) (λ c. (c .before .before .t1sz .ensures, rw (← c .before .epd1 .ensures) (c .left-out .ensures), refl)))
+upper-half-spec =
+    tie.close
+    (tie.spec
+    (λ c κs. tt) (λ c κs. tt) (λ c κs. tt) (λ c κs. tt) (λ c κs. tt)
+    (λ c.
+    let k = c .before .before .before in
+    (c .before .before .t1sz .ensures, rw (← c .before .epd1 .ensures) (c .left-out .ensures), refl, rw (← k .before .tg1 .ensures) (k .by-tg1 .ensures))))

@@ -11,4 +11,5 @@ item7-spec =
     (λ c κs. tt)
     (λ c κs. tt)
     (λ c κs. tt)
-    (λ c. rw (← c .before .before .before .before .epd1 .ensures, c .before .before .before .if1 .left) (cc)))
+    (λ c κs. tt)
+    (λ c. rw (← c .before .before .before .before .before .epd1 .ensures, c .before .before .before .before .if1 .left) (cc)))

@@ -3,7 +3,7 @@
 use borrow.Author.Needs.{needs}
 use borrow.Author.Tests.{not-true, not-false}
 use mathlib.Core.Path.{refl, sym, _∙_}
-use Prim.Native.Nat.{_+_, _-_, _*_, _^_, _≤_}
+use Prim.Native.Nat.{_-_, _*_, _^_, _≤_, _<_}
 use native.Mathlib.Nat.{mul-le-mul}
 use native.Mathlib.Omega.{arith}
 use lib.ListN.{length, getD}
@@ -24,8 +24,8 @@ abbrev μ-loop : tie.MeasureT-loop
 bounds : (c : tie.In-loop Inv-loop μ-loop) →
     let z = c .before .before .before .before .before .before .before .args in
     let i = c .before .loop .i in
-    (getD (z .tables .now) i 0 + 4096 ≤ 2 ^ 48) × (1 ≤ getD (z .levels .now) i 0) × (getD (z .levels .now) i 0 ≤ 3)
-bounds c = table-bounds _ _ (tables-fit (c .before .before .before .before .before .before .before .pre .0 .listed) .fits _ (c .loop-test .taken))
+    (getD (z .tables .now) i 0 < 2 ^ 48) × (1 ≤ getD (z .levels .now) i 0) × (getD (z .levels .now) i 0 ≤ 3)
+bounds c = let l = c .before .before .before .before .before .before .before .pre .0 .listed in table-bounds _ _ _ (l .some) (tables-fit l .fits _ (c .loop-test .taken))
 
 one-table-requires : tie.Need-one-table-requires Inv-loop μ-loop
 one-table-requires c κs =
@@ -34,7 +34,7 @@ one-table-requires c κs =
     let b = bounds l in
     let few : 3 - getD (k .args .levels .now) (l .before .loop .i) 0 ≤ 2 = omega (arith, b .1) in
     let low : k .args .g .stride * (3 - getD (k .args .levels .now) (l .before .loop .i) 0) ≤ 13 * 2 = mul-le-mul (k .pre .2) few in
-    (k .pre .0, omega (arith, few), omega (arith, k .pre .1, low), k .pre .3, omega (arith, k .pre .2), omega (arith, b .0))
+    (k .pre .0, omega (arith, few), omega (arith, k .pre .1, low), k .pre .3, omega (arith, k .pre .2), b .0)
 
 pub listed-tables-spec : {M : Type 1} → statement M
 listed-tables-spec =

@@ -18,7 +18,7 @@ use Rattle.audit.proofs.table.one_table.Tie as tie
 ends : (c : tie.After-two-to) → let z = c .before .before .before .before .before .before .args in z .table + 8 * c .two-to .result < 2 ^ 64
 ends c =
     let k = c .before .before .before .before .before .before in
-    let few : 2 ^ k .args .j ≤ 2 ^ 16 = pow-mono (k .pre .4) in
+    let few : 2 ^ k .args .j ≤ 2 ^ 17 = pow-mono (k .pre .4) in
     omega (arith, c .two-to .ensures, few, k .pre .5)
 
 -- all entries are in the capture

@@ -11,10 +11,10 @@ use Rattle.walk.proofs.start.first_entry.Statement.{statement}
 use Rattle.walk.proofs.start.first_entry.Tie as tie
 
 -- an index in 16 bits
-index-small : (x n : ℕ) → n ≤ 16 → x % 2 ^ n < 2 ^ 16
+index-small : (x n : ℕ) → n ≤ 17 → x % 2 ^ n < 2 ^ 17
 index-small x n h = lt-of-lt-of-le (mod-lt x (pow-pos n)) (pow-mono h)
 
-size : (n : ℕ) → n ≤ 16 → (1 * 2 ^ n) % 2 ^ 64 ≡ 2 ^ n
+size : (n : ℕ) → n ≤ 17 → (1 * 2 ^ n) % 2 ^ 64 ≡ 2 ^ n
 size n h = one-shl n (omega arith)
 
 pub first-entry-spec : {M : Type 1} → statement M
