@@ -12,14 +12,14 @@ use Rattle.descriptor.specs.declared.entry.Masks.{Masks}
 use Rattle.descriptor.specs.declared.entry.Turn.{Turn}
 use Rattle.descriptor.specs.declared.entry.Turn.the-variants as Turn
 
--- the least number with a bit beyond an output size, among those of 48 bits
-abbrev pub limit : ℕ → ℕ
-limit outputsize = pick (leb outputsize 48) (2 ^ outputsize) (2 ^ 48)
+-- the mask of bits 47 down to a size
+abbrev pub above : ℕ → ℕ
+above size = pick (leb size 48) (2 ^ 48 - 2 ^ size) 0
 
 abbrev pub masksOf : Geometry → Masks
 masksOf g =
     record {
-      limit = limit (g .outputsize);
+      above = above (g .outputsize);
       unsettled = pick (ltb (g .inputsize) (g .contiguous)) (2 ^ 52) 0;
       index = 2 ^ g .stride - 1;
       table = 2 ^ 48 - 2 ^ g .grainsize;

@@ -39,8 +39,8 @@ pub enum Entry {
 
 // Words that a walk goes by at each level, worked out of a geometry once.
 pub struct Masks {
-    // An address from here on is beyond the output size.
-    pub limit: u64,
+    // Of the bits of an address beyond the output size.
+    pub above: u64,
     // Of the contiguous bit, where a block with the most levels below it and that bit set is unsettled; 0 where it is not.
     pub unsettled: u64,
     // Of an index into a table.

@@ -13,14 +13,14 @@ ghost use Rattle.descriptor.specs.declared.entry.Turn.the-variants as Wa
 ghost use Rattle.descriptor.specs.Entry as Entries;
 ghost use Rattle.descriptor.specs.Turn as Turns;
 
-// The least number with a bit beyond a size, among those of 48 bits.
-pub fn limit(size: u64) -> u64
-    ensures { λ r. ⌜ r ≡ Turns.limit size ⌝ }
+// The mask of bits 47 down to a size: one test with it tells whether an address has a bit there.
+pub fn above(size: u64) -> u64
+    ensures { λ r. ⌜ r ≡ Turns.above size ⌝ }
 {
     if size <= 48 {
-        1 << size
+        0x1_0000_0000_0000 - (1 << size)
     } else {
-        0x1_0000_0000_0000
+        0
     }
 }
 
@@ -46,7 +46,7 @@ pub fn masks(g: Geometry) -> Masks
     let stride = g.stride;
     let outputsize = g.outputsize;
     Masks {
-        limit: limit(outputsize),
+        above: above(outputsize),
         unsettled: unsettled(g),
         index: (1 << stride) - 1,
         table: 0x1_0000_0000_0000 - (1 << grainsize),
@@ -58,8 +58,7 @@ fn outside(g: Geometry, m: Masks, x: u64) -> bool
     requires { ⌜ m ≡ Turns.masksOf g ⌝ }
     ensures { λ r. ⌜ r ≡ Bits.beyond x (g .outputsize) ⌝ }
 {
-    let limit = m.limit;
-    limit <= x % 0x1_0000_0000_0000
+    x & m.above != 0
 }
 
 // The contiguous bit is set where Arm leaves open what it does.

@@ -171,8 +171,18 @@ fn startless(k: Granule, start: i64, bits: i64, pamax: u64) -> bool
     (start < first) | (start < second) & (pamax <= k.over) | (bits < 1) | (most < bits)
 }
 
-// Stage 2's start.
-pub fn start2(r: El2) -> Start
+// Stage 2's output size.
+fn output2(r: El2) -> u64
+    ensures { λ n. ⌜ n ≡ Roots.geometry2 r .outputsize ⌝ }
+{
+    let vtcr = r.vtcr;
+    level::output_size(r.pamax, vtcr.ps())
+}
+
+// Stage 2's start, by its output size. Without working that out it is small enough that the compiler copies it into each caller, and no
+// question copies a start.
+fn start_by(r: El2, output: u64) -> Start
+    requires { ⌜ output ≡ Roots.geometry2 r .outputsize ⌝ }
     ensures { λ s. ⌜ Starts s (Roots.root2 r) ⌝ }
 {
     let vtcr = r.vtcr;
@@ -182,12 +192,17 @@ pub fn start2(r: El2) -> Start
         return start::nowhere(Ending::Translation, 0);
     }
     let n = level::levels_below(start);
-    let output = level::output_size(r.pamax, vtcr.ps());
     start_from(granule::geometry(k, 64 - vtcr.t0sz(), output), n, r.vttbr)
 }
 
-// Stage 2 for walks. Where it is off no walk starts and there is no IPA. (Where the limit was 2 to a size in any case, the compiler would
-// shift at each IPA in the place of a comparison.)
+// Stage 2's start.
+pub fn start2(r: El2) -> Start
+    ensures { λ s. ⌜ Starts s (Roots.root2 r) ⌝ }
+{
+    start_by(r, output2(r))
+}
+
+// Stage 2 for walks. Where it is off no walk starts and there is no IPA.
 pub fn prepared2(r: El2) -> Prepared2
     ensures { λ p. ⌜ (stage2Of p ≡ Calls.narrowed2 r) × Sound2 p ⌝ }
 {
@@ -201,8 +216,8 @@ pub fn prepared2(r: El2) -> Prepared2
         Prepared2 {
             on: true,
             inputsize,
-            limit: turn::limit(inputsize),
-            start: start2(r),
+            above: turn::above(inputsize),
+            start: start_by(r, output2(r)),
             cd,
             id,
             ptw,
@@ -211,7 +226,7 @@ pub fn prepared2(r: El2) -> Prepared2
         Prepared2 {
             on: false,
             inputsize,
-            limit: 0,
+            above: 0,
             start: start::nowhere(Ending::Translation, 0),
             cd,
             id,

@@ -5,7 +5,7 @@ use mathlib.Core.Bool.{true}
 use Prim.Native.Nat.{ℕ, _-_, _≤_, _<_, _^_}
 use Rattle.reads.specs.Program.{Outcome, reached, stopped}
 use Rattle.descriptor.specs.Entry.{shift}
-use Rattle.descriptor.specs.Turn.{limit, masksOf}
+use Rattle.descriptor.specs.Turn.{above, masksOf}
 use Rattle.descriptor.specs.declared.entry.FaultKind.the-variants as F
 use Rattle.walk.specs.Ends.{faulted}
 use Rattle.walk.specs.declared.stop.Stop.{Stop}
@@ -74,5 +74,5 @@ stage2Of p = record { on = p .on; inputsize = p .inputsize; root = rootOf (p .st
 
 -- stage 2's words go together
 pub record Sound2 (p : Prepared2) : Type 0 where
-  pub limit : p .on ≡ true → p .limit ≡ limit (p .inputsize)
+  pub above : p .on ≡ true → p .above ≡ above (p .inputsize)
   pub start : Starts (p .start) (rootOf (p .start))

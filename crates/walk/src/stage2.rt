@@ -44,8 +44,8 @@ pub struct Stage2 {
 pub struct Prepared2 {
     pub on: bool,
     pub inputsize: u64,
-    // An IPA from here on is beyond the input size.
-    pub limit: u64,
+    // The mask of an IPA's bits beyond the input size.
+    pub above: u64,
     pub start: Start,
     pub cd: bool,
     pub id: bool,
@@ -160,10 +160,10 @@ pub fn translate2(
     requires { ⌜ Sound2 p × (listedSize (a .size) ≡ true) × (base + length (now bytes) ≤ 2 ^ 64) × (count + 4 ≤ length (now log)) × (p .on ≡ true) ⌝ }
     ensures { λ r. ⌜ Ran (captured base (now (bytes .entry))) (Definitions.translate2 (stage2Of p) a onwalk ipa) (now (log .entry)) count (Ends.ended (Stages.Two ipa onwalk) (stage2Attributes (Definitions.uncached2 (stage2Of p) a onwalk)) r) (r .count) (now (log .exit)) × (r .count ≤ count + 4) ⌝ }
 {
-    let limit = p.limit;
+    let above = p.above;
     let start = p.start;
     let ending = start.ending;
-    if limit <= ipa % 0x1_0000_0000_0000 {
+    if ipa & above != 0 {
         return end::stopped(Ending::Translation, 0, count);
     }
     if end::passed(ending) {

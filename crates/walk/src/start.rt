@@ -42,7 +42,7 @@ pub fn nowhere(ending: Ending, level: u64) -> Start
         },
         shift: 0,
         masks: Masks {
-            limit: 0,
+            above: 0,
             unsettled: 0,
             index: 0,
             table: 0,

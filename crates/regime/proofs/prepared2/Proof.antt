@@ -15,11 +15,11 @@ use Rattle.regime.proofs.prepared2.Tie as tie
 
 returns : tie.Need-returns
 returns c =
-    let k = c .before .before in
+    let k = c .before .before .before in
     let r = k .before .before .before .before .before .before .before .before .args .r in
     let on = sym (k .before .stage2-on .ensures) ∙ k .if1 .taken in
-    let root = starts-root (c .start2 .result) (root2 r) (c .start2 .ensures) in
-    (cc (root, on, pick-true (stage2On r) (root2 r) (Unusable Translation 0) on), record { limit = λ _. c .before .limit .ensures; start = rw root (c .start2 .ensures) })
+    let root = starts-root (c .start-by .result) (root2 r) (c .start-by .ensures) in
+    (cc (root, on, pick-true (stage2On r) (root2 r) (Unusable Translation 0) on), record { above = λ _. c .before .before .above .ensures; start = rw root (c .start-by .ensures) })
 
 returns-2 : tie.Need-returns-2
 unfolding faulted
@@ -28,9 +28,9 @@ returns-2 c =
     let r = k .before .before .before .before .before .before .before .before .args .r in
     let off = sym (k .before .stage2-on .ensures) ∙ k .if1 .left in
     let root = starts-root (c .nowhere .result) (Unusable Translation 0) (c .nowhere .ensures) in
-    (cc (root, off, pick-false (stage2On r) (root2 r) (Unusable Translation 0) off), record { limit = λ on. absurd (true≢false (sym on)); start = rw root (c .nowhere .ensures) })
+    (cc (root, off, pick-false (stage2On r) (root2 r) (Unusable Translation 0) off), record { above = λ on. absurd (true≢false (sym on)); start = rw root (c .nowhere .ensures) })
 
 pub prepared2-spec : {M : Type 1} → statement M
 prepared2-spec =
     tie.close
-    (tie.spec (λ c κs. tt) (λ c. search needs) (λ c κs. tt) (λ c κs. tt) (λ c κs. tt) (λ c κs. tt) (λ c κs. tt) (λ c κs. tt) (λ c κs. tt) returns returns-2)
+    (tie.spec (λ c κs. tt) (λ c. search needs) (λ c κs. tt) (λ c κs. tt) (λ c κs. tt) (λ c κs. tt) (λ c κs. tt) (λ c κs. tt) (λ c κs. c .output2 .ensures) (λ c κs. tt) returns returns-2)

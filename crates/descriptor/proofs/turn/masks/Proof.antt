@@ -17,4 +17,4 @@ masks-spec =
     (λ c. rw (one-shl (c .before .before .args .g .stride) (omega arith)) (pow-pos (c .before .before .args .g .stride)))
     (λ c. search needs)
     (λ c. rw (one-shl (c .before .before .args .g .grainsize) (omega arith)) (omega (arith, pow-mono (c .before .before .pre .0))))
-    (λ c. rw (one-shl (c .before .before .args .g .stride) (omega arith), one-shl (c .before .before .args .g .grainsize) (omega arith), c .unsettled .ensures, c .before .limit .ensures)))
+    (λ c. rw (one-shl (c .before .before .args .g .stride) (omega arith), one-shl (c .before .before .args .g .grainsize) (omega arith), c .unsettled .ensures, c .before .above .ensures)))

@@ -1,12 +1,12 @@
 -- `translate2` meets its contract: beyond the input size, at a root that is of no use, or by its walk.
 -- Assumes nothing.
 use borrow.Author.Needs.{needs}
-use borrow.Author.Tests.{le-leb, lt-leb}
-use mathlib.Core.Path.{_≡_, sym, _∙_}
-use mathlib.Core.Bool.{false}
+use borrow.Author.Tests.{eq-eqb, ne-eqb}
+use mathlib.Core.Path.{_≡_, sym, ap, _∙_}
+use mathlib.Core.Bool.{false, not}
 use native.Mathlib.Omega.{arith}
 use Rattle.bits.specs.Bits.{beyond}
-use Rattle.descriptor.proofs.Masks.{beyond-limit}
+use Rattle.descriptor.proofs.Masks.{beyond-above}
 use Rattle.attributes.specs.Attributes.{stage2Attributes}
 use Rattle.walk.specs.Stage2.{uncached2}
 use Rattle.walk.specs.Ends.{faulted}
@@ -21,7 +21,7 @@ use Rattle.walk.proofs.stage2.translate2.Tie as tie
 inside : (c : tie.Else1) → let z = c .before .before .before .before .args in beyond (z .ipa) (z .p .inputsize) ≡ false
 inside c =
     let z = c .before .before .before .before .args in
-    sym (beyond-limit (z .ipa) (z .p .inputsize)) ∙ lt-leb _ _ (rw (c .before .before .before .before .pre .0 .limit (c .before .before .before .before .pre .4)) at (c .if1 .left))
+    sym (beyond-above (z .ipa) (z .p .inputsize)) ∙ ap not (eq-eqb _ _ (rw (c .before .before .before .before .pre .0 .above (c .before .before .before .before .pre .4)) at (c .if1 .left)))
 
 -- the walk from a root that is of use
 usable : (c : tie.After-walk2-arg) → let p = c .before .before .before .before .before .before .before .args .p in (rootOf (p .start) ≡ Usable (p .start .table)) × Fit (p .start)
@@ -34,7 +34,7 @@ returns c =
     rw (c .stopped .ensures)
     ((
       ran-outside _ (stage2Of (z .p)) (z .a) (z .onwalk) (z .ipa) (stage2Attributes (uncached2 (stage2Of (z .p)) (z .a) (z .onwalk)))
-          (sym (beyond-limit (z .ipa) (z .p .inputsize)) ∙ le-leb _ _ (rw (c .before .before .before .before .before .pre .0 .limit (c .before .before .before .before .before .pre .4)) at (c .before .if1 .taken))),
+          (sym (beyond-above (z .ipa) (z .p .inputsize)) ∙ ap not (ne-eqb _ _ (rw (c .before .before .before .before .before .pre .0 .above (c .before .before .before .before .before .pre .4)) at (c .before .if1 .taken)))),
       omega arith,
     ))
 

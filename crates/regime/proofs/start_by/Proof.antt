@@ -1,4 +1,4 @@
--- `start2` meets its contract: its one test is each of the definition's four.
+-- `start_by` meets its contract: its one test is each of the definition's four.
 -- Assumes nothing.
 use borrow.Author.Needs.{needs}
 use mathlib.Core.Path.{_≡_, refl, sym, _∙_}
@@ -19,8 +19,8 @@ use Rattle.regime.specs.Roots.{granule2, startLevel2, geometry2, rootOf,
 use Rattle.registers.specs.declared.El2.{El2}
 use Rattle.level.proofs.Signed.{few-below2, start2-held, check-held}
 use Rattle.regime.proofs.Ready.{small2}
-use Rattle.regime.proofs.start2.Statement.{statement}
-use Rattle.regime.proofs.start2.Tie as tie
+use Rattle.regime.proofs.start_by.Statement.{statement}
+use Rattle.regime.proofs.start_by.Tie as tie
 
 pick-any : (a b c d : Bool) (p q : Root) → pick (a || b || c || d) p q ≡ pick a p (pick b p (pick c p (pick d p q)))
 unfolding pick
@@ -83,14 +83,14 @@ below c =
     c .levels-below .ensures ∙ rw (start2-held (k .result) _ (s .result) (k .ensures .1) (mod-lt _ (omega arith)) (s .ensures), s .ensures, k .ensures .0)
 
 -- the geometry
-geometry : (c : tie.After-geometry) → c .geometry .result ≡ geometry2 (c .before .before .before .before .before .before .before .before .before .before .before .args .r)
+geometry : (c : tie.After-geometry) → c .geometry .result ≡ geometry2 (c .before .before .before .before .before .before .before .before .before .args .r)
 geometry c =
-    let k = c .before .before .before .before .before .before .before .before .before .granule2 in
-    c .geometry .ensures ∙ rw (c .before .t0sz .ensures, c .before .before .output-size .ensures, c .before .before .before .ps .ensures, k .ensures .0)
+    let k = c .before .before .before .before .before .before .before .granule2 in
+    c .geometry .ensures ∙ rw (c .before .t0sz .ensures, c .before .before .before .before .before .before .before .before .before .pre, k .ensures .0)
 
 start-from-requires : tie.Need-start-from-requires
 start-from-requires c κs =
-    let n = c .before .before .before .before in
+    let n = c .before .before in
     let t = n .before .before in
     let k = t .before .before .before .granule2 in
     let r = t .before .before .before .before .before .args .r in
@@ -100,18 +100,18 @@ start-from-requires c κs =
       rw (geometry c, below n) (small2 r (p .0) (p .1)),
     )
 
-pub start2-spec : {M : Type 1} → statement M
+pub start-by-spec : {M : Type 1} → statement M
 unfolding pick faulted
-start2-spec =
+start-by-spec =
     tie.close
     (tie.spec
     (λ c κs. tt)
     (λ c κs. c .granule2 .ensures .1) (λ c κs. c .before .granule2 .ensures .1) (λ c κs. c .before .before .granule2 .ensures .1)
     (λ c κs. tt)
     (λ c. rw (← root2-is _, ← tested (c .before .before), c .before .if1 .taken) (c .nowhere .ensures))
-    (λ c κs. tt) (λ c κs. tt) (λ c κs. tt) (λ c κs. tt)
+    (λ c κs. tt) (λ c κs. tt)
     (λ c. search needs) (λ c κs. tt)
     start-from-requires
     (λ c.
-    let n = c .before .before .before .before .before in
+    let n = c .before .before .before in
     rw (← root2-is _, ← tested (n .before .before), n .before .if1 .left, ← below n, ← geometry (c .before)) (c .start-from .ensures)))
