@@ -1,11 +1,11 @@
 //! A straightforward audit in Rust, by document 01: what the proved audit is measured against. Every list is searched from its start.
-use crate::decode::second;
+use crate::decode::{second, stage2_on, Granule, Root};
 use crate::proved::{AuditWords, Capture, Question};
 use crate::refusals::{ends_high, item};
-use crate::straight::{level, output, shift, PAGE};
+use crate::straight::output;
 
-/// Addresses and counts are multiples of this, and so many bytes has a listed table.
-const FRAME: u64 = 1 << PAGE;
+/// Grants and their counts are multiples of this.
+const FRAME: u64 = 4096;
 pub const MOST_GRANTS: usize = 256;
 pub const MOST_TABLES: usize = 1024;
 
@@ -21,19 +21,29 @@ pub struct Lists {
 /// A finding's number and address.
 type Finding = (u64, u64);
 
-fn fits(address: u64, count: u64) -> bool {
-    address % FRAME == 0 && count % FRAME == 0 && count >= FRAME && address.checked_add(count).map_or(false, |end| end <= 1 << 48)
+/// So many bytes from a multiple of a size end by 2^48.
+fn lies(address: u64, count: u64, size: u64) -> bool {
+    address % size == 0 && address.checked_add(count).map_or(false, |end| end <= 1 << 48)
+}
+
+/// The bytes of a listed table: one granule of stage 2, or a frame with stage 2 off.
+fn table_size(q: &Question) -> u64 {
+    if stage2_on(q) {
+        1 << Granule::by_tg0(q.vtcr_el2).page
+    } else {
+        FRAME
+    }
 }
 
 impl Lists {
-    fn are_well_formed(&self) -> bool {
+    fn are_well_formed(&self, table_size: u64) -> bool {
         let Lists { grants, counts, tables, levels } = self;
         grants.len() == counts.len()
             && grants.len() <= MOST_GRANTS
             && tables.len() == levels.len()
             && tables.len() <= MOST_TABLES
-            && grants.iter().zip(counts).all(|(grant, count)| fits(*grant, *count))
-            && tables.iter().zip(levels).all(|(table, level)| fits(*table, FRAME) && (1..=3).contains(level))
+            && grants.iter().zip(counts).all(|(grant, count)| lies(*grant, *count, FRAME) && count % FRAME == 0 && *count >= FRAME)
+            && tables.iter().zip(levels).all(|(table, level)| lies(*table, table_size, table_size) && (1..=3).contains(level))
             && (1..grants.len()).all(|n| grants[n - 1] + counts[n - 1] < grants[n])
             && (1..tables.len()).all(|n| (tables[n - 1], levels[n - 1]) < (tables[n], levels[n]))
     }
@@ -52,8 +62,9 @@ impl Lists {
         self.tables.iter().zip(&self.levels).any(|(table, level)| *table == address && *level == at)
     }
 
-    fn examine(&self, capture: Capture, table: u64, entries: u64, level: u64) -> Result<(), Finding> {
-        let (size, shift) = (8 * entries, shift(level));
+    /// A table of a stage 2 with this root, which gives the sizes.
+    fn examine(&self, capture: Capture, root: &Root, table: u64, entries: u64, level: u64) -> Result<(), Finding> {
+        let (size, shift) = (8 * entries, root.page + root.stride * (3 - level as u32));
         let offset = table.wrapping_sub(capture.base) as usize;
         let bytes = capture.bytes.get(offset..).and_then(|rest| rest.get(..size as usize)).ok_or((1, table))?;
         if self.touches_grant(table, size) {
@@ -64,7 +75,8 @@ impl Lists {
             let descriptor = u64::from_le_bytes(eight.try_into().expect("eight bytes"));
             let address = |low| output(descriptor, low, 0);
             match (descriptor & 3, level) {
-                (3, 0..=2) if !self.is_listed(address(PAGE), level + 1) => return Err((3, at)),
+                (3, 0..=2) if !self.is_listed(address(root.page), level + 1) => return Err((3, at)),
+                (1, 1 | 2) if level < root.block_level => {}
                 (3, 3) | (1, 1 | 2) if !self.is_granted(address(shift), 1 << shift) => return Err((4, at)),
                 _ => {}
             }
@@ -85,7 +97,7 @@ pub fn audit(q: &Question, capture: Capture, lists: &Lists) -> AuditWords {
         0 => {}
         item => return AuditWords { number: 12, item, ..none },
     }
-    if !lists.are_well_formed() {
+    if !lists.are_well_formed(table_size(q)) {
         return AuditWords { number: 15, ..none };
     }
     let root = match second(q).and_then(|stage2| stage2.root.ok()) {
@@ -94,8 +106,8 @@ pub fn audit(q: &Question, capture: Capture, lists: &Lists) -> AuditWords {
     };
     let listed = || lists.tables.iter().zip(&lists.levels);
     let examined = lists
-        .examine(capture, root.table, root.index + 1, level(root.shift))
-        .and_then(|()| listed().try_for_each(|(table, level)| lists.examine(capture, *table, FRAME / 8, *level)));
+        .examine(capture, &root, root.table, root.index + 1, root.level)
+        .and_then(|()| listed().try_for_each(|(table, level)| lists.examine(capture, &root, *table, 1 << root.stride, *level)));
     match examined {
         Ok(()) => none,
         Err((number, address)) => AuditWords { number, address, ..none },

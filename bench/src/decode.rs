@@ -5,16 +5,70 @@ use crate::straight::Cause;
 /// What IPS or PS says of the output size.
 const SIZES: [u64; 6] = [32, 36, 40, 42, 44, 48];
 
-/// Where a stage's table walk starts.
+/// What differs from granule to granule.
+#[derive(Clone, Copy)]
+pub struct Granule {
+    /// The bits of an address inside a page. A table has one page, so an index has three fewer.
+    pub page: u32,
+    /// The first level that stage 2 may start at, and what PAMax must be over there. Blocks are at the levels after it, but for the last.
+    first: u64,
+    over: u64,
+    /// Arm leaves the contiguous bit of the largest block open for an input size under this.
+    contiguous: u64,
+}
+
+const KB4: Granule = Granule { page: 12, first: 0, over: 42, contiguous: 34 };
+const KB16: Granule = Granule { page: 14, first: 1, over: 40, contiguous: 30 };
+const KB64: Granule = Granule { page: 16, first: 1, over: 42, contiguous: 34 };
+
+impl Granule {
+    /// By TG0 of TCR_EL1 or VTCR_EL2, which is not the reserved code.
+    pub fn by_tg0(register: u64) -> Granule {
+        match register >> 14 & 3 {
+            1 => KB64,
+            2 => KB16,
+            _ => KB4,
+        }
+    }
+
+    /// By TG1 of TCR_EL1, whose codes are others.
+    fn by_tg1(tcr: u64) -> Granule {
+        match tcr >> 30 & 3 {
+            1 => KB16,
+            3 => KB64,
+            _ => KB4,
+        }
+    }
+
+    pub fn stride(self) -> u32 {
+        self.page - 3
+    }
+
+    /// The lowest bit of a level's index.
+    pub fn shift(self, level: u64) -> u32 {
+        self.page + self.stride() * (3 - level as u32)
+    }
+
+    /// The level of the largest block.
+    pub fn block_level(self) -> u64 {
+        self.first + 1
+    }
+}
+
+/// Where a stage's table walk starts, and the sizes that it goes by.
 pub struct Root {
     pub table: u64,
+    pub level: u64,
     /// The lowest input bit of the root's index.
     pub shift: u32,
     /// The bits of the root's index, shifted down.
     pub index: u64,
     /// 2 to the output size.
     pub limit: u64,
-    /// Whether Arm leaves a level 1 block with the contiguous bit open.
+    pub page: u32,
+    pub stride: u32,
+    pub block_level: u64,
+    /// Whether Arm leaves a block of that level with the contiguous bit open.
     pub contiguous_open: bool,
 }
 
@@ -71,38 +125,44 @@ fn output_size(q: &Question, register: u64) -> u64 {
 }
 
 /// The root of a walk from a base register. Bits of the base under the root's size are ignored.
-fn root(base: u64, size: u64, output_size: u64, shift: u64) -> Result<Root, Cause> {
+fn root(granule: Granule, base: u64, size: u64, output_size: u64, level: u64) -> Result<Root, Cause> {
     let address = base & ones(47, 0);
     if address >> output_size != 0 {
         return Err(Cause::AddressSize);
     }
-    let bits = size - shift;
+    let shift = granule.shift(level);
+    let bits = size as u32 - shift;
     Ok(Root {
         table: address & u64::MAX << (bits + 3),
-        shift: shift as u32,
+        level,
+        shift,
         index: (1 << bits) - 1,
         limit: 1 << output_size,
-        contiguous_open: size < 34,
+        page: granule.page,
+        stride: granule.stride(),
+        block_level: granule.block_level(),
+        contiguous_open: size < granule.contiguous,
     })
 }
 
 /// One half, with its own base register. A disabled half's size is not looked at: the settings do not test it.
 fn stage1(q: &Question, high: bool) -> Stage1 {
     let (mair, write_implies_xn) = (q.mair_el1.to_le_bytes(), bit(q.sctlr_el1, 19));
-    let (base, field, disabled) =
-        if high { (q.ttbr1_el1, q.tcr_el1 >> 16 & 63, bit(q.tcr_el1, 23)) } else { (q.ttbr0_el1, q.tcr_el1 & 63, bit(q.tcr_el1, 7)) };
+    let tcr = q.tcr_el1;
+    let (base, field, disabled, granule) = if high {
+        (q.ttbr1_el1, tcr >> 16 & 63, bit(tcr, 23), Granule::by_tg1(tcr))
+    } else {
+        (q.ttbr0_el1, tcr & 63, bit(tcr, 7), Granule::by_tg0(tcr))
+    };
     if disabled {
         return Stage1 { tested: 0, wanted: 0, root: Err(Cause::Translation), mair, write_implies_xn };
     }
     let size = 64 - field;
-    let shift = match size {
-        40..=48 => 39,
-        31..=39 => 30,
-        _ => 21,
-    };
     let tested = ones(top(q, high), size);
     let wanted = if high { tested } else { 0 };
-    Stage1 { tested, wanted, root: root(base, size, output_size(q, q.tcr_el1 >> 32), shift), mair, write_implies_xn }
+    // The first level whose index the input has a bit of.
+    let level = (0..3).find(|level| granule.shift(*level) < size as u32).unwrap_or(3);
+    Stage1 { tested, wanted, root: root(granule, base, size, output_size(q, tcr >> 32), level), mair, write_implies_xn }
 }
 
 /// Stage 1 is on with SCTLR_EL1.M, unless HCR_EL2.DC is set.
@@ -127,14 +187,17 @@ pub fn first(q: &Question, high: bool) -> First {
 
 /// The root of stage 2, whose start level and size check are signed numbers.
 fn root2(q: &Question, size: u64) -> Result<Root, Cause> {
-    let level = 2 - (q.vtcr_el2 >> 6 & 3) as i64;
-    if level < 0 || level == 0 && q.pamax <= 42 {
+    let granule = Granule::by_tg0(q.vtcr_el2);
+    let first = granule.first as i64;
+    let level = 2 + first - (q.vtcr_el2 >> 6 & 3) as i64;
+    if level < first || level == first && q.pamax <= granule.over {
         return Err(Cause::Translation);
     }
-    let shift = 12 + 9 * (3 - level);
-    match size as i64 - shift {
-        1..=13 => root(q.vttbr_el2, size, output_size(q, q.vtcr_el2 >> 16), shift as u64),
-        _ => Err(Cause::Translation),
+    let bits = size as i64 - granule.shift(level as u64) as i64;
+    if (1..=granule.stride() as i64 + 4).contains(&bits) {
+        root(granule, q.vttbr_el2, size, output_size(q, q.vtcr_el2 >> 16), level as u64)
+    } else {
+        Err(Cause::Translation)
     }
 }
 

@@ -3,34 +3,34 @@ use crate::attributes::reported;
 use crate::decode::{bit, first};
 use crate::proved::{Capture, Question, Words};
 use crate::refusals::refusal;
-use crate::straight::{level, Cause, Notes, Place, Trail, Walker, LOG, TOP};
+use crate::straight::{Cause, Notes, Place, Trail, Walker, LOG};
 
 #[derive(Clone, Copy)]
 struct Leaf {
     descriptor: u64,
-    shift: u32,
+    level: u64,
 }
 
-/// In place of the leaf of a stage that is off, whose level is 0.
-const NO_LEAF: Leaf = Leaf { descriptor: 0, shift: TOP };
+/// In place of the leaf of a stage that is off.
+const NO_LEAF: Leaf = Leaf { descriptor: 0, level: 0 };
 
 /// The leaf that each stage's walk came to last, and where the walk stopped if it did.
 struct Ends {
     first: Leaf,
     second: Leaf,
     place: Place,
-    shift: u32,
+    level: u64,
     at: u64,
 }
 
 impl Notes for Ends {
-    fn leaf(&mut self, place: Place, descriptor: u64, shift: u32) {
+    fn leaf(&mut self, place: Place, descriptor: u64, level: u64) {
         let end = if place == Place::Stage1 { &mut self.first } else { &mut self.second };
-        *end = Leaf { descriptor, shift };
+        *end = Leaf { descriptor, level };
     }
 
-    fn stop(&mut self, place: Place, shift: u32, at: u64) {
-        (self.place, self.shift, self.at) = (place, shift, at);
+    fn stop(&mut self, place: Place, level: u64, at: u64) {
+        (self.place, self.level, self.at) = (place, level, at);
     }
 }
 
@@ -40,8 +40,8 @@ fn translated(q: &Question, address: u64, ends: &Ends, reads: u64) -> Words {
         address,
         memory: attributes.memory as u64,
         shareability: attributes.shareability,
-        level1: level(ends.first.shift),
-        level2: level(ends.second.shift),
+        level1: ends.first.level,
+        level2: ends.second.level,
         reads,
         ..Words::default()
     }
@@ -50,10 +50,10 @@ fn translated(q: &Question, address: u64, ends: &Ends, reads: u64) -> Words {
 fn stopped(cause: Cause, ends: &Ends, reads: u64) -> Words {
     // Faults alone carry the IPA, and an alignment fault carries no level.
     let (address, ipa, level) = match cause {
-        Cause::NotCaptured => (ends.at, 0, level(ends.shift)),
-        Cause::Unsettled => (0, 0, level(ends.shift)),
+        Cause::NotCaptured => (ends.at, 0, ends.level),
+        Cause::Unsettled => (0, 0, ends.level),
         Cause::Alignment => (0, ends.at, 0),
-        _ => (0, ends.at, level(ends.shift)),
+        _ => (0, ends.at, ends.level),
     };
     let stage = if ends.place == Place::Stage1 { 1 } else { 2 };
     Words { number: cause as u64, address, stage, level, onwalk: (ends.place == Place::OnWalk) as u64, ipa, reads, ..Words::default() }
@@ -67,7 +67,7 @@ pub fn ask(q: &Question, capture: Capture, address: u64, log: &mut [u64]) -> Wor
         return words;
     }
     let log = (&mut log[..LOG]).try_into().expect("so many words");
-    let ends = Ends { first: NO_LEAF, second: NO_LEAF, place: Place::Stage1, shift: TOP, at: 0 };
+    let ends = Ends { first: NO_LEAF, second: NO_LEAF, place: Place::Stage1, level: 0, at: 0 };
     let mut trail = Trail { log, count: 0, notes: ends };
     let walked = Walker::new(q, capture).access(&first(q, bit(address, 55)), address, &mut trail);
     let (ends, reads) = (&trail.notes, trail.count as u64);

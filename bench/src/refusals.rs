@@ -3,9 +3,9 @@ use crate::decode::{bit, stage1_on, stage2_on};
 use crate::proved::{Capture, Question, Words};
 use crate::straight::LOG;
 
-/// The granule of 4 KB in TG0 and in TG1, whose codes differ.
-const TG0: u64 = 0;
-const TG1: u64 = 2;
+/// The codes of TG0 and of TG1 that name no granule.
+const RESERVED_TG0: u64 = 3;
+const RESERVED_TG1: u64 = 0;
 
 /// The codes of IPS and PS.
 fn listed_output(code: u64) -> bool {
@@ -13,8 +13,8 @@ fn listed_output(code: u64) -> bool {
 }
 
 /// TnSZ, and the code of the granule.
-fn listed_input(field: u64, granule: u64, wanted: u64) -> bool {
-    (16..=39).contains(&field) && granule == wanted
+fn listed_input(field: u64, granule: u64, reserved: u64) -> bool {
+    (16..=39).contains(&field) && granule != reserved
 }
 
 /// The first item of the settings that fails, or 0.
@@ -37,10 +37,10 @@ pub fn item(q: &Question) -> u64 {
         if !listed_output(tcr >> 32 & 7) {
             return 5;
         }
-        if !bit(tcr, 7) && !listed_input(tcr & 63, tcr >> 14 & 3, TG0) {
+        if !bit(tcr, 7) && !listed_input(tcr & 63, tcr >> 14 & 3, RESERVED_TG0) {
             return 6;
         }
-        if !bit(tcr, 23) && !listed_input(tcr >> 16 & 63, tcr >> 30 & 3, TG1) {
+        if !bit(tcr, 23) && !listed_input(tcr >> 16 & 63, tcr >> 30 & 3, RESERVED_TG1) {
             return 7;
         }
     }
@@ -48,7 +48,7 @@ pub fn item(q: &Question) -> u64 {
         if !listed_output(vtcr >> 16 & 7) {
             return 8;
         }
-        if !listed_input(vtcr & 63, vtcr >> 14 & 3, TG0) || 64 - (vtcr & 63) > q.pamax {
+        if !listed_input(vtcr & 63, vtcr >> 14 & 3, RESERVED_TG0) || 64 - (vtcr & 63) > q.pamax {
             return 9;
         }
     }

@@ -1,4 +1,4 @@
-//! A straightforward table walk in Rust, by the rules of document 01: what the proved walk is measured against.
+//! A straightforward table walk in Rust, by the rules of document 01, over any granule: what the proved walk is measured against.
 //! Slices are safe, each stage is one loop over its levels. The batch and the question share it.
 use crate::attributes::{reserved_shareability, MAIR, NORMAL, UNSETTLED};
 use crate::decode::{bit, second, First, Flat, Root, Stage1, Stage2};
@@ -30,18 +30,18 @@ pub enum Place {
     OnWalk,
 }
 
-/// What is noted of a walk beside its output and its log. A shift is the lowest input bit of a level's index, and tells the level.
+/// What is noted of a walk beside its output and its log. What happens before any read is at level 0.
 pub trait Notes {
     /// A walk came to this leaf.
-    fn leaf(&mut self, place: Place, descriptor: u64, shift: u32);
+    fn leaf(&mut self, place: Place, descriptor: u64, level: u64);
     /// A walk stopped. It is told where the descriptor should lie that is not in the capture, else stage 2's IPA, else 0.
-    fn stop(&mut self, place: Place, shift: u32, at: u64);
+    fn stop(&mut self, place: Place, level: u64, at: u64);
 }
 
 /// No notes, and no cost: the walk is compiled without them.
 impl Notes for () {
-    fn leaf(&mut self, _: Place, _: u64, _: u32) {}
-    fn stop(&mut self, _: Place, _: u32, _: u64) {}
+    fn leaf(&mut self, _: Place, _: u64, _: u64) {}
+    fn stop(&mut self, _: Place, _: u64, _: u64) {}
 }
 
 #[derive(Clone, Copy, PartialEq, Eq)]
@@ -75,35 +75,21 @@ pub struct Walker<'a> {
 
 /// Bits 47 to 0.
 const ADDRESS: u64 = (1 << 48) - 1;
-pub const PAGE: u32 = 12;
-const STRIDE: u32 = 9;
-/// The shift of level 0, which is also the level of what happens before any read.
-pub const TOP: u32 = PAGE + 3 * STRIDE;
-
-/// The level whose index has this lowest bit.
-pub fn level(shift: u32) -> u64 {
-    ((TOP - shift) / STRIDE) as u64
-}
-
-/// The lowest bit of a level's index.
-pub fn shift(level: u64) -> u32 {
-    TOP - STRIDE * level as u32
-}
 
 /// The tests of a descriptor, in their order.
-fn step(descriptor: u64, shift: u32, root: &Root) -> Result<Step, Cause> {
+fn step(descriptor: u64, level: u64, root: &Root) -> Result<Step, Cause> {
     let address = descriptor & ADDRESS;
     match descriptor & 3 {
-        3 if shift > PAGE => {
-            return if address >= root.limit { Err(Cause::AddressSize) } else { Ok(Step::Table(address >> PAGE << PAGE)) };
+        3 if level < 3 => {
+            return if address >= root.limit { Err(Cause::AddressSize) } else { Ok(Step::Table(address >> root.page << root.page)) };
         }
         3 => {}
-        1 if shift == 21 => {}
-        1 if shift == 30 => {
+        1 if level == root.block_level => {
             if root.contiguous_open && bit(descriptor, 52) {
                 return Err(Cause::Unsettled);
             }
         }
+        1 if level == 2 => {}
         _ => return Err(Cause::Translation),
     }
     if address >= root.limit {
@@ -123,8 +109,8 @@ pub fn output(descriptor: u64, shift: u32, input: u64) -> u64 {
 
 impl<N: Notes> Trail<'_, N> {
     /// The cause, of which a note is made.
-    fn stop(&mut self, cause: Cause, place: Place, shift: u32, at: u64) -> Cause {
-        self.notes.stop(place, shift, at);
+    fn stop(&mut self, cause: Cause, place: Place, level: u64, at: u64) -> Cause {
+        self.notes.stop(place, level, at);
         cause
     }
 }
@@ -169,26 +155,28 @@ impl<'a> Walker<'a> {
     fn stage1(&self, stage1: &Stage1, address: u64, trail: &mut Trail<impl Notes>) -> Result<u64, Cause> {
         let place = Place::Stage1;
         if address & stage1.tested != stage1.wanted {
-            return Err(trail.stop(Cause::Translation, place, TOP, 0));
+            return Err(trail.stop(Cause::Translation, place, 0, 0));
         }
-        let root = stage1.root.as_ref().map_err(|cause| trail.stop(*cause, place, TOP, 0))?;
-        let mut shift = root.shift;
+        let root = stage1.root.as_ref().map_err(|cause| trail.stop(*cause, place, 0, 0))?;
+        let (mut level, mut shift) = (root.level, root.shift);
+        let index = (1 << root.stride) - 1;
         let mut at = root.table + 8 * (address >> shift & root.index);
         let mut tables = 0;
         loop {
             if let Some(stage2) = &self.second {
                 at = self.stage2(stage2, address, at, Place::OnWalk, trail)?;
             }
-            let descriptor = self.read(at, trail).ok_or_else(|| trail.stop(Cause::NotCaptured, place, shift, at))?;
-            match step(descriptor, shift, root).map_err(|cause| trail.stop(cause, place, shift, 0))? {
+            let descriptor = self.read(at, trail).ok_or_else(|| trail.stop(Cause::NotCaptured, place, level, at))?;
+            match step(descriptor, level, root).map_err(|cause| trail.stop(cause, place, level, 0))? {
                 Step::Table(table) => {
                     tables |= descriptor;
-                    shift -= STRIDE;
-                    at = table + 8 * (address >> shift & 511);
+                    level += 1;
+                    shift -= root.stride;
+                    at = table + 8 * (address >> shift & index);
                 }
                 Step::Leaf => {
-                    self.check1(stage1, address, descriptor, tables).map_err(|cause| trail.stop(cause, place, shift, 0))?;
-                    trail.notes.leaf(place, descriptor, shift);
+                    self.check1(stage1, address, descriptor, tables).map_err(|cause| trail.stop(cause, place, level, 0))?;
+                    trail.notes.leaf(place, descriptor, level);
                     return Ok(output(descriptor, shift, address));
                 }
             }
@@ -236,32 +224,34 @@ impl<'a> Walker<'a> {
 
     fn stage1_off(&self, flat: &Flat, address: u64, trail: &mut Trail<impl Notes>) -> Result<u64, Cause> {
         if address & flat.zeros != 0 {
-            return Err(trail.stop(Cause::AddressSize, Place::Stage1, TOP, 0));
+            return Err(trail.stop(Cause::AddressSize, Place::Stage1, 0, 0));
         }
         if flat.device && self.misaligned(address) {
-            return Err(trail.stop(Cause::Alignment, Place::Stage1, TOP, 0));
+            return Err(trail.stop(Cause::Alignment, Place::Stage1, 0, 0));
         }
         Ok(address & ADDRESS)
     }
 
     fn stage2(&self, stage2: &Stage2, address: u64, ipa: u64, place: Place, trail: &mut Trail<impl Notes>) -> Result<u64, Cause> {
         if ipa >= stage2.inputs {
-            return Err(trail.stop(Cause::Translation, place, TOP, ipa));
+            return Err(trail.stop(Cause::Translation, place, 0, ipa));
         }
-        let root = stage2.root.as_ref().map_err(|cause| trail.stop(*cause, place, TOP, ipa))?;
-        let mut shift = root.shift;
+        let root = stage2.root.as_ref().map_err(|cause| trail.stop(*cause, place, 0, ipa))?;
+        let (mut level, mut shift) = (root.level, root.shift);
+        let index = (1 << root.stride) - 1;
         let mut at = root.table + 8 * (ipa >> shift);
         loop {
-            let descriptor = self.read(at, trail).ok_or_else(|| trail.stop(Cause::NotCaptured, place, shift, at))?;
-            match step(descriptor, shift, root).map_err(|cause| trail.stop(cause, place, shift, ipa))? {
+            let descriptor = self.read(at, trail).ok_or_else(|| trail.stop(Cause::NotCaptured, place, level, at))?;
+            match step(descriptor, level, root).map_err(|cause| trail.stop(cause, place, level, ipa))? {
                 Step::Table(table) => {
-                    shift -= STRIDE;
-                    at = table + 8 * (ipa >> shift & 511);
+                    level += 1;
+                    shift -= root.stride;
+                    at = table + 8 * (ipa >> shift & index);
                 }
                 Step::Leaf => {
                     let on_walk = place == Place::OnWalk;
-                    self.check2(stage2, address, descriptor, on_walk).map_err(|cause| trail.stop(cause, place, shift, ipa))?;
-                    trail.notes.leaf(place, descriptor, shift);
+                    self.check2(stage2, address, descriptor, on_walk).map_err(|cause| trail.stop(cause, place, level, ipa))?;
+                    trail.notes.leaf(place, descriptor, level);
                     return Ok(output(descriptor, shift, ipa));
                 }
             }
