@@ -1,37 +1,53 @@
 //! Compares the proved audit with the independent one, and counts audits by class.
 use crate::audit::{
-    audit, entry, failing_setting, inside, tables, touch, Entry, Finding, Lists, Refusal, Table, Verdict, FRAME, MOST_GRANTS, MOST_TABLES,
+    audit, entry, failing_setting, inside, root, table_size, tables, touch, Entry, Finding, Lists, Refusal, Table, Verdict, FRAME,
+    MOST_GRANTS, MOST_TABLES,
 };
 use crate::audit_damage::Audits;
-use crate::classes::{Counts, HIGH, SETTINGS};
+use crate::classes::{by_granule, granule_name, is_leaf_level, no_start, no_starts, Counts, HIGH, RESERVED, SETTINGS};
 use crate::proved::{self, AuditWords};
 use crate::vectors::{audit_answer_text, audit_text, AuditLine};
-use crate::walk::{bit, bits, stage2_on, Capture, OutputSize, Question};
+use crate::walk::{bit, bits, is_listed, stage2_on, Capture, Granule, OutputSize, Question, GRANULES};
 use crate::{blamed, unread, PRINTED};
 use std::collections::BTreeSet;
 use std::ops::Range;
 
-const CLEAN_ROOT: &str = " 0 clean, by start level and root (- less, + more than a page)";
-const CLEAN_INDEX: &str = " 0 clean, by bits of the root's index";
-const CLEAN_WITH: &str = " 0 clean, with";
-const MISSING: &str = " 1 bytes of the table missing";
-const SHARED: &str = " 2 frames of the grant in the table";
-const NEXT: &str = " 3 next table";
-const LEAF: &str = " 4 leaf, by level and place";
+const MISSING: &str = " 1 bytes of the table missing, by granule";
+const SHARED: &str = " 2 frames of the grant in the table, by granule";
+const NEXT: &str = " 3 next table, by granule";
 const ACCEPTED: &str = "15 not given, with";
-const GROUND: &str = "15 audit lists, by their only ground";
-const NO_ROOT: &str = "16 no root, by ground";
+const GROUND: &str = "15 audit lists, by granule and their only ground";
+const ACROSS: &str = "15 table across 2^48, by granule";
+const NO_ROOT: &str = "16 no root, by granule and ground";
 const TESTED: &str = "12 settings with stage 2 off, by item";
 const ORDER: &str = "refused, and by which more";
 const UNTESTED: &str = "16 stage 2 off, by item that is not tested";
+const FRAMES: &str = "16 stage 2 off, a table off the granule";
+
+/// Rows of clean audits for each granule.
+fn clean_root(granule: Granule) -> String {
+    format!(" 0 clean with {}, by start level and root (- less, + more than a granule)", granule_name(Some(granule)))
+}
+
+fn clean_index(granule: Granule) -> String {
+    format!(" 0 clean with {}, by bits of the root's index", granule_name(Some(granule)))
+}
+
+fn clean_with(granule: Granule) -> String {
+    format!(" 0 clean with {}, with", granule_name(Some(granule)))
+}
+
+fn leaf_row(granule: Granule) -> String {
+    format!(" 4 leaf with {}, by level and place", granule_name(Some(granule)))
+}
 
 fn by_table(number: u64) -> String {
     let meaning = ["not whole in the capture", "touches a grant", "next table not listed", "leaf not granted"][number as usize - 1];
-    format!("{number:2} {meaning}, by table")
+    format!("{number:2} {meaning}, by granule and table")
 }
 
 fn by_entry(number: u64) -> String {
-    format!("{number:2} by entry")
+    format!("{number:2} by granule and entry")
 }
 
 /// Which table a finding is in: the root by its start level, or a listed one by its level.
@@ -39,8 +55,8 @@ fn table_name(table: &Table) -> String {
     format!("{}{}", if table.listed { "" } else { "root " }, table.level)
 }
 
-/// What lists may have that is just not malformed, and whether they have it.
-fn limits(lists: &Lists) -> [(&'static str, bool); 8] {
+/// What lists may have that is just not malformed with tables of so many bytes, and whether they have it.
+fn limits(lists: &Lists, table_size: u64) -> [(&'static str, bool); 8] {
     let (granted, tables) = (lists.granted(), lists.tables());
     [
         ("no grants", granted.is_empty()),
@@ -49,7 +65,7 @@ fn limits(lists: &Lists) -> [(&'static str, bool); 8] {
         ("a gap of a frame", granted.windows(2).any(|pair| pair[1].start - pair[0].end == FRAME)),
         ("no tables", tables.is_empty()),
         ("1024 tables", tables.len() == MOST_TABLES),
-        ("a table up to 2^48", tables.iter().any(|table| table.0 == (1 << 48) - FRAME)),
+        ("a table up to 2^48", tables.iter().any(|table| table.0 == (1 << 48) - table_size)),
         ("a table at two levels", tables.windows(2).any(|pair| pair[0].0 == pair[1].0)),
     ]
 }
@@ -60,11 +76,15 @@ fn contents(capture: Capture, tables: &[Table]) -> BTreeSet<String> {
     for table in tables {
         for at in table.bytes().step_by(8) {
             let descriptor = capture.descriptor(at).unwrap_or(0);
-            match entry(descriptor, table.level) {
+            let below_granule = bits(descriptor, table.granule.log() - 1, 12) != 0;
+            match entry(descriptor, table) {
                 Entry::Leaf(leaf) => {
                     let access_flag = if bit(descriptor, 10) { "" } else { ", access flag clear" };
                     let end = if leaf.end == 1 << 48 { ", up to 2^48" } else { "" };
                     all.insert(format!("leaf at {}{access_flag}{end}", table.level));
+                }
+                Entry::Table(_) if below_granule => {
+                    all.insert("next table with bits below the granule".to_string());
                 }
                 Entry::PassedOver if bit(descriptor, 0) => {
                     all.insert(format!("type 01 at {}", table.level));
@@ -77,22 +97,14 @@ fn contents(capture: Capture, tables: &[Table]) -> BTreeSet<String> {
 }
 
 /// Why stage 2 is off, or has no root.
-fn no_root(q: &Question) -> &'static str {
-    let (size, level) = (64 - bits(q.vtcr_el2, 5, 0) as i64, 2 - bits(q.vtcr_el2, 7, 6) as i64);
-    let size_check = size - ((3 - level) * 9 + 12);
-    match (level, size_check) {
-        _ if !stage2_on(q) => "stage 2 off",
-        (-1, _) => "start below 0",
-        (0, 1..=13) if q.pamax == 42 => "level 0, PAMax 42",
-        (0, 1..=13) if q.pamax < 42 => "level 0, PAMax less",
-        (0, _) if q.pamax <= 42 => "level 0, PAMax and size check",
-        (_, 0) => "size check 0",
-        (_, 14) => "size check 14",
-        (_, 1..=13) if bits(q.vttbr_el2, 47, OutputSize::Coded.of_ps(q)) != 0 => "base beyond output size",
-        (_, 1..=13) => "base beyond PAMax alone",
-        (_, check) if check < 0 => "size check under 0",
-        _ => "size check over 14",
-    }
+fn no_root(q: &Question) -> String {
+    let granule = match Granule::of_stage2(q) {
+        Some(granule) if stage2_on(q) => granule,
+        _ => return "stage 2 off".to_string(),
+    };
+    let beyond_coded = bits(q.vttbr_el2, 47, OutputSize::Coded.of_ps(q)) != 0;
+    let base = if beyond_coded { "base beyond output size" } else { "base beyond PAMax alone" };
+    by_granule(Some(granule), no_start(q, granule).unwrap_or_else(|| base.to_string()))
 }
 
 /// How a leaf lies to the grants, in none of which it is.
@@ -107,89 +119,148 @@ fn leaf_place(lists: &Lists, leaf: &Range<u64>) -> &'static str {
     }
 }
 
+/// Start levels, with marks for roots of less or more than a granule.
+fn root_names(granule: Granule) -> &'static [&'static str] {
+    match granule {
+        Granule::Of4KB => &["0-", "0", "1-", "1", "1+", "2-", "2", "2+"],
+        Granule::Of16KB => &["1-", "1", "1+", "2-", "2", "2+", "3", "3+"],
+        Granule::Of64KB => &["1-", "2-", "2", "2+", "3-", "3", "3+"],
+    }
+}
+
 /// The classes of audits.
 struct Classes(Counts);
 
 impl Classes {
     /// All classes that can exist, none of them met.
     fn new() -> Classes {
-        let mut all = Counts::default();
-        all.add(CLEAN_ROOT, ["0-", "0", "1-", "1", "1+", "2-", "2", "2+"]);
-        all.add(CLEAN_INDEX, 1..=13);
-        for leaf in ["leaf at 1", "leaf at 2", "leaf at 3"] {
-            all.add(CLEAN_WITH, ["", ", access flag clear", ", up to 2^48"].map(|more| format!("{leaf}{more}")));
+        let mut classes = Classes(Counts::default());
+        for granule in GRANULES {
+            classes.add_clean(granule);
+            classes.add_findings(granule);
+            classes.add_refusals(granule);
         }
-        all.add(CLEAN_WITH, ["type 01 at 0", "type 01 at 3", "capture up to 2^48", "capture no more than its tables"]);
-        for row in [CLEAN_WITH, ACCEPTED] {
-            all.add(row, limits(&Lists::default()).map(|limit| limit.0));
-        }
-        all.add(&by_table(1), ["root 0", "root 1", "root 2", "1", "2", "3"]);
-        all.add(&by_table(2), ["root 0", "root 1", "root 2", "1", "2", "3"]);
-        all.add(&by_table(3), ["root 0", "root 1", "root 2", "1", "2"]);
-        all.add(&by_table(4), ["root 1", "root 2", "1", "2", "3"]);
-        for number in [3, 4] {
-            all.add(&by_entry(number), ["root first", "root last", "root other", "listed first", "listed last", "listed other"]);
-        }
-        all.add(MISSING, ["all, empty capture", "first", "last", "others"]);
-        all.add(SHARED, ["first", "last", "all", "others"]);
-        all.add(NEXT, ["root", "listed at another level", "not listed"]);
-        for level in [1, 2, 3] {
-            all.add(LEAF, [format!("{level} outside")]);
-        }
-        for level in [1, 2] {
-            all.add(LEAF, ["over a start", "over an end", "around", "across a gap"].map(|place| format!("{level} {place}")));
-        }
+        let all = &mut classes.0;
+        // Only of small tables is there room for so many.
+        all.add(&clean_with(Granule::Of4KB), ["256 grants", "1024 tables"]);
+        all.add(ACCEPTED, limits(&Lists::default(), FRAME).map(|limit| limit.0));
         all.add(HIGH, ["past 2^48", "past 2^64"]);
         all.add(SETTINGS, [1, 2, 3, 4, 8, 9]);
-        all.add(GROUND, Lists::default().grounds().map(|ground| ground.0));
-        all.add(NO_ROOT, ["stage 2 off", "start below 0", "level 0, PAMax 42", "level 0, PAMax less"]);
-        all.add(NO_ROOT, ["base beyond output size", "base beyond PAMax alone"]);
-        all.add(NO_ROOT, ["size check under 0", "size check 0", "size check 14", "size check over 14"]);
-        all.add(UNTESTED, [4, 8, 9]);
+        all.add(RESERVED, [9]);
+        all.add(NO_ROOT, ["stage 2 off"]);
+        all.add(UNTESTED, ["4", "8", "9", "9 reserved granule code"]);
+        all.add(FRAMES, ["16K", "64K"]);
         all.add(TESTED, [1, 2, 3]);
         all.add(ORDER, ["11 and 12", "11 and 15", "11 and 16", "12 and 15", "15 and 16"]);
-        Classes(all)
+        classes
+    }
+
+    fn add_clean(&mut self, granule: Granule) {
+        let all = &mut self.0;
+        all.add(&clean_root(granule), root_names(granule));
+        all.add(&clean_index(granule), (1..=granule.stride() + 4).map(|bits| format!("{bits:02}")));
+        let with = clean_with(granule);
+        for level in (1..=3).filter(|&level| is_leaf_level(granule, level)) {
+            all.add(&with, ["", ", access flag clear", ", up to 2^48"].map(|more| format!("leaf at {level}{more}")));
+        }
+        // Levels at which type 01 is passed over: 64KB tables have no level 0, and neither have 16KB tables of stage 2.
+        all.add(&with, [if granule == Granule::Of4KB { "type 01 at 0" } else { "type 01 at 1" }, "type 01 at 3"]);
+        if granule != Granule::Of4KB {
+            all.add(&with, ["next table with bits below the granule"]);
+        }
+        all.add(&with, ["capture up to 2^48", "capture no more than its tables"]);
+        all.add(&with, ["no grants", "a grant up to 2^48", "a gap of a frame"]);
+        all.add(&with, ["no tables", "a table up to 2^48", "a table at two levels"]);
+    }
+
+    fn add_findings(&mut self, granule: Granule) {
+        let all = &mut self.0;
+        let first = if granule == Granule::Of4KB { 0 } else { 1 };
+        let roots = (first..first + 3).map(|level| (false, level));
+        for (listed, level) in roots.chain((1..=3).map(|level| (true, level))) {
+            let exists = [true, true, level < 3, is_leaf_level(granule, level)];
+            for (number, _) in (1..=4).zip(exists).filter(|finding| finding.1) {
+                let table = format!("{}{level}", if listed { "" } else { "root " });
+                all.add(&by_table(number), [by_granule(Some(granule), table)]);
+            }
+        }
+        let name = |told: &str| by_granule(Some(granule), told);
+        for number in [3, 4] {
+            for table in ["root", "listed"] {
+                all.add(&by_entry(number), ["first", "last", "other"].map(|place| name(&format!("{table} {place}"))));
+            }
+        }
+        all.add(MISSING, ["all, empty capture", "first", "last", "others"].map(name));
+        all.add(SHARED, ["first", "last", "all", "others"].map(name));
+        all.add(NEXT, ["root", "listed at another level", "not listed"].map(name));
+        for level in (1..=3).filter(|&level| is_leaf_level(granule, level)) {
+            all.add(&leaf_row(granule), [format!("{level} outside")]);
+            // A page of 4KB is a frame: it is in a grant or outside.
+            if granule.shift(level) > 12 {
+                let places = ["over a start", "over an end", "around", "across a gap"];
+                all.add(&leaf_row(granule), places.map(|place| format!("{level} {place}")));
+            }
+        }
+    }
+
+    fn add_refusals(&mut self, granule: Granule) {
+        let all = &mut self.0;
+        let name = |told: &str| by_granule(Some(granule), told);
+        all.add(GROUND, Lists::default().grounds(FRAME).map(|ground| name(ground.0)));
+        if granule != Granule::Of4KB {
+            all.add(GROUND, [name("table address, of a frame")]);
+            all.add(ACROSS, [granule_name(Some(granule))]);
+        }
+        all.add(NO_ROOT, no_starts(granule).into_iter().map(name));
+        all.add(NO_ROOT, ["base beyond output size", "base beyond PAMax alone"].map(name));
     }
 
     fn meet_clean(&mut self, q: &Question, capture: Capture, lists: &Lists) {
         let tables = tables(q, lists);
         let root = tables[0];
-        let size = match root.entries {
-            0..=511 => "-",
-            512 => "",
-            _ => "+",
+        let size = match root.entries.cmp(&(1 << root.granule.stride())) {
+            std::cmp::Ordering::Less => "-",
+            std::cmp::Ordering::Equal => "",
+            std::cmp::Ordering::Greater => "+",
         };
-        self.0.count(CLEAN_ROOT, format!("{}{size}", root.level));
-        self.0.count(CLEAN_INDEX, root.entries.trailing_zeros());
+        self.0.count(&clean_root(root.granule), format!("{}{size}", root.level));
+        self.0.count(&clean_index(root.granule), format!("{:02}", root.entries.trailing_zeros()));
+        let with = clean_with(root.granule);
         for content in contents(capture, &tables) {
-            self.0.count(CLEAN_WITH, content);
+            self.0.count(&with, content);
         }
-        self.meet_limits(CLEAN_WITH, lists);
+        self.meet_limits(&with, q, lists);
         let end = capture.base + capture.bytes.len() as u64;
         if end == 1 << 48 {
-            self.0.count(CLEAN_WITH, "capture up to 2^48");
+            self.0.count(&with, "capture up to 2^48");
         }
         let (first, last) = (tables.iter().map(|table| table.address).min(), tables.iter().map(|table| table.bytes().end).max());
         if first == Some(capture.base) && last == Some(end) {
-            self.0.count(CLEAN_WITH, "capture no more than its tables");
+            self.0.count(&with, "capture no more than its tables");
         }
     }
 
-    fn meet_limits(&mut self, row: &str, lists: &Lists) {
-        for (limit, _) in limits(lists).into_iter().filter(|limit| limit.1) {
+    fn meet_limits(&mut self, row: &str, q: &Question, lists: &Lists) {
+        for (limit, _) in limits(lists, table_size(q)).into_iter().filter(|limit| limit.1) {
             self.0.count(row, limit);
         }
     }
 
     fn meet_finding(&mut self, capture: Capture, lists: &Lists, finding: &Finding) {
         let (table, bytes) = (finding.table, finding.table.bytes());
-        self.0.count(&by_table(finding.number), table_name(&table));
+        let name = |told: &str| by_granule(Some(table.granule), told);
+        self.0.count(&by_table(finding.number), name(&table_name(&table)));
         let here = capture.base..capture.base + capture.bytes.len() as u64;
         match finding.number {
-            1 if here.is_empty() => self.0.count(MISSING, "all, empty capture"),
-            1 if here.start == bytes.start + 1 && bytes.end <= here.end => self.0.count(MISSING, "first"),
-            1 if here.end == bytes.end - 1 && here.start <= bytes.start => self.0.count(MISSING, "last"),
-            1 => self.0.count(MISSING, "others"),
+            1 => {
+                let missing = match here {
+                    _ if here.is_empty() => "all, empty capture",
+                    _ if here.start == bytes.start + 1 && bytes.end <= here.end => "first",
+                    _ if here.end == bytes.end - 1 && here.start <= bytes.start => "last",
+                    _ => "others",
+                };
+                self.0.count(MISSING, name(missing));
+            }
             2 => {
                 let grant = lists.granted().into_iter().find(|grant| touch(grant, &bytes)).expect("finding 2 has a grant");
                 let shared = if inside(&grant, &bytes) {
@@ -201,7 +272,7 @@ impl Classes {
                 } else {
                     "others"
                 };
-                self.0.count(SHARED, shared);
+                self.0.count(SHARED, name(shared));
             }
             number => {
                 let place = match (finding.address - table.address) / 8 {
@@ -209,22 +280,26 @@ impl Classes {
                     last if last == table.entries - 1 => "last",
                     _ => "other",
                 };
-                self.0.count(&by_entry(number), format!("{} {place}", if table.listed { "listed" } else { "root" }));
+                self.0.count(&by_entry(number), name(&format!("{} {place}", if table.listed { "listed" } else { "root" })));
             }
         }
     }
 
     /// What a finding's entry leads to.
     fn meet_entry(&mut self, q: &Question, capture: Capture, lists: &Lists, finding: &Finding) {
-        let descriptor = capture.descriptor(finding.address).unwrap_or(0);
-        match entry(descriptor, finding.table.level) {
+        let (descriptor, table) = (capture.descriptor(finding.address).unwrap_or(0), finding.table);
+        match entry(descriptor, &table) {
             Entry::Table(next) if finding.number == 3 => {
-                let listed = lists.tables.contains(&next);
-                let root = tables(q, lists)[0].address == next;
-                self.0.count(NEXT, if listed { "listed at another level" } else { ["not listed", "root"][root as usize] });
+                let is_root = root(q).map_or(false, |root| root.address == next);
+                let what = match lists.tables.contains(&next) {
+                    true => "listed at another level",
+                    false if is_root => "root",
+                    false => "not listed",
+                };
+                self.0.count(NEXT, by_granule(Some(table.granule), what));
             }
             Entry::Leaf(leaf) if finding.number == 4 => {
-                self.0.count(LEAF, format!("{} {}", finding.table.level, leaf_place(lists, &leaf)));
+                self.0.count(&leaf_row(table.granule), format!("{} {}", table.level, leaf_place(lists, &leaf)));
             }
             _ => {}
         }
@@ -233,9 +308,56 @@ impl Classes {
     /// What else an audit would be refused for, that is refused by this number.
     fn meet_order(&mut self, q: &Question, lists: &Lists, number: u64) {
         let passes = failing_setting(q).is_none();
-        let grounds = [(12, !passes), (15, lists.are_malformed()), (16, passes && tables(q, &Lists::default()).is_empty())];
+        let grounds = [(12, !passes), (15, lists.are_malformed(q)), (16, passes && root(q).is_none())];
         for (later, _) in grounds.into_iter().filter(|&(later, given)| given && later > number) {
             self.0.count(ORDER, format!("{number} and {later}"));
+        }
+    }
+
+    fn meet_settings(&mut self, q: &Question, item: u64) {
+        if !stage2_on(q) {
+            return self.0.count(TESTED, item);
+        }
+        self.0.count(SETTINGS, item);
+        let size_field = bits(q.vtcr_el2, 5, 0);
+        if item == 9 && is_listed(size_field) && 64 - size_field <= q.pamax {
+            self.0.count(RESERVED, item);
+        }
+    }
+
+    /// A table off its granule is named apart if it is on a frame.
+    fn meet_lists(&mut self, q: &Question, lists: &Lists) {
+        let granule = Granule::of_stage2(q).filter(|_| stage2_on(q));
+        let grounds: Vec<_> = lists.grounds(table_size(q)).into_iter().filter(|ground| ground.1).map(|ground| ground.0).collect();
+        match grounds.as_slice() {
+            ["table address"] if lists.tables.iter().all(|address| address % FRAME == 0) => {
+                self.0.count(GROUND, by_granule(granule, "table address, of a frame"));
+            }
+            [ground] => self.0.count(GROUND, by_granule(granule, ground)),
+            _ => {}
+        }
+        let across = |&address: &u64| address < 1 << 48 && address + table_size(q) > 1 << 48 && address % FRAME == 0;
+        if lists.tables.iter().any(across) {
+            self.0.count(ACROSS, granule_name(granule));
+        }
+    }
+
+    fn meet_no_root(&mut self, q: &Question, lists: &Lists) {
+        self.0.count(NO_ROOT, no_root(q));
+        let (size_field, granule) = (bits(q.vtcr_el2, 5, 0), Granule::of_stage2(q));
+        let fits = is_listed(size_field) && 64 - size_field <= q.pamax;
+        let fails = [
+            ("4", bit(q.sctlr_el2, 25)),
+            ("8", bits(q.vtcr_el2, 18, 16) > 5),
+            ("9", !fits),
+            ("9 reserved granule code", fits && granule.is_none()),
+        ];
+        for (item, _) in fails.into_iter().filter(|(_, fails)| *fails) {
+            self.0.count(UNTESTED, item);
+        }
+        let off_granule = |granule: &Granule| lists.tables.iter().any(|address| address % granule.size() != 0);
+        if let Some(granule) = granule.filter(off_granule) {
+            self.0.count(FRAMES, granule_name(Some(granule)));
         }
     }
 
@@ -251,29 +373,13 @@ impl Classes {
                 let wraps = capture.base.checked_add(capture.bytes.len() as u64).is_none();
                 self.0.count(HIGH, if wraps { "past 2^64" } else { "past 2^48" });
             }
-            Verdict::Refused(Refusal::Settings(item)) => self.0.count(if stage2_on(q) { SETTINGS } else { TESTED }, item),
-            Verdict::Refused(Refusal::Lists) => {
-                let grounds: Vec<_> = lists.grounds().into_iter().filter(|ground| ground.1).collect();
-                if let [(ground, _)] = grounds.as_slice() {
-                    self.0.count(GROUND, ground);
-                }
-            }
-            Verdict::Refused(Refusal::NoRoot) => {
-                self.0.count(NO_ROOT, no_root(q));
-                let size_field = bits(q.vtcr_el2, 5, 0);
-                let fails = [
-                    (4, bit(q.sctlr_el2, 25)),
-                    (8, bits(q.vtcr_el2, 18, 16) > 5),
-                    (9, !(16..=39).contains(&size_field) || bits(q.vtcr_el2, 15, 14) != 0 || 64 - size_field > q.pamax),
-                ];
-                for (item, _) in fails.into_iter().filter(|(_, fails)| *fails) {
-                    self.0.count(UNTESTED, item);
-                }
-            }
+            Verdict::Refused(Refusal::Settings(item)) => self.meet_settings(q, *item),
+            Verdict::Refused(Refusal::Lists) => self.meet_lists(q, lists),
+            Verdict::Refused(Refusal::NoRoot) => self.meet_no_root(q, lists),
         }
         let number = AuditWords::from(verdict).number;
         if number < 11 || number == 16 {
-            self.meet_limits(ACCEPTED, lists);
+            self.meet_limits(ACCEPTED, q, lists);
         } else {
             self.meet_order(q, lists, number);
         }
@@ -327,10 +433,10 @@ pub fn compare(count: u64, seed: u64) -> (u64, Vec<String>) {
         let ours = AuditWords::from(&verdict);
         let proved = proved::audit(q, capture, lists);
         classes.meet(q, capture, lists, &verdict);
-        if let Some(why) = difference(&ours, &proved, image.bytes == image.copy && *lists == before) {
+        if let Some(why) = difference(&ours, &proved, image.kept() && *lists == before) {
             differ += 1;
             if differ <= PRINTED {
-                println!("{why}: {} | {}", audit_text(q, capture, lists), audit_answer_text(&ours));
+                println!("{why}: {} | {}", audit_text(q, asked.part.capture(image), lists), audit_answer_text(&ours));
                 print(&ours, &proved);
             }
         }

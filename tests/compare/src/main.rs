@@ -12,7 +12,7 @@ mod tables;
 mod vectors;
 mod walk;
 
-use classes::Classes;
+use classes::{Classes, Told};
 use generate::Questions;
 use proved::Words;
 use std::process::ExitCode;
@@ -214,14 +214,14 @@ fn compare_random(count: u64, seed: u64) -> ExitCode {
         let q = &asked.question;
         let capture = asked.part.capture(image);
         let both = Compared::new(q, capture, asked.log_words);
-        classes.meet(q, capture.base, capture.bytes.len(), &both.walk.words);
+        classes.meet(&Told { q, capture, words: &both.walk.words, reads: both.walk.reads() });
         if lowering_decides(q, capture, asked.log_words, &both.walk) {
             classes.meet_lowered(&both.walk.words);
         }
-        if let Some(why) = both.difference(image.bytes == image.copy) {
+        if let Some(why) = both.difference(image.kept()) {
             differ += 1;
             if differ <= PRINTED {
-                print_difference(q, capture, asked.log_words, &both, why);
+                print_difference(q, asked.part.capture(image), asked.log_words, &both, why);
             }
         }
         if reported.elapsed() > Duration::from_secs(10) {
