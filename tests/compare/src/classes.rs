@@ -254,7 +254,10 @@ fn index_bits(stage: u64) -> String {
 }
 
 const LEAST_PAMAX: &str = " 0 translated, by stage 2's start at the least PAMax for it";
-const NO_START: &str = " 1 stage 2, no start, by granule and ground";
+const NO_START: &str = " 1 stage 2 without a start, by granule and ground";
+
+/// A ground for one IPA.
+const PAST_INPUT: &str = "IPA past its size";
 const DISABLED: &str = " 1 disabled half, by granule code";
 const FIRST_BYTES: &str = " 6 first bytes of the descriptor there, by number";
 const LAST_BYTES: &str = " 6 last bytes of the descriptor there, by number";
@@ -362,7 +365,7 @@ impl Classes {
             all.add(&contiguous(0), [contiguous_block(granule, stage, settled_from)]);
             all.add(&index_bits(stage), (1..=most).map(|bits| by_granule(Some(granule), format!("{bits:02}"))));
         }
-        all.add(NO_START, no_starts(granule).iter().map(|ground| by_granule(Some(granule), ground)));
+        all.add(NO_START, no_starts(granule).into_iter().chain([PAST_INPUT]).map(|ground| by_granule(Some(granule), ground)));
         all.add(LEAST_PAMAX, [by_granule(Some(granule), pamax_rule(granule).0)]);
     }
 
@@ -373,10 +376,12 @@ impl Classes {
         self.0.count(&lowered(words.stage, words.onwalk), found_at);
     }
 
-    /// Counts a leaf with the contiguous bit that is at the level of the contiguous rule.
+    /// Counts a leaf if it is a contiguous block that the contiguous rule just decides, or just not.
     fn meet_contiguous(&mut self, told: &Told, stage: u64, level: u64, descriptor: u64) {
         let Stage { granule, input_size, .. } = Stage::new(told.q, stage);
-        if bit(descriptor, 52) && level == granule.contiguous_rule().0 {
+        let (ruled_level, settled_from) = granule.contiguous_rule();
+        let beside = if told.words.number == 7 { settled_from - 1 } else { settled_from };
+        if bit(descriptor, 52) && level == ruled_level && input_size == beside {
             self.0.count(&contiguous(told.words.number), contiguous_block(granule, stage, input_size));
         }
     }
@@ -405,14 +410,23 @@ impl Classes {
         self.0.count(&answers(granules), answer(number, stage, onwalk));
         let granule = granules.of(stage);
         self.0.count(&stopped(number, stage, onwalk), by_granule(granule, level));
-        let ground = granule.filter(|_| stage == 2 && number == 1).and_then(|granule| no_start(told.q, granule));
+        match number {
+            1 => self.meet_translation(told, granule),
+            6 => self.meet_absent(told),
+            7 => self.meet_contiguous(told, stage, level, told.last_but(0)),
+            _ => {}
+        }
+    }
+
+    /// Counts a translation fault that is not for an address of stage 1, nor for a descriptor whose bit 0 is 0.
+    fn meet_translation(&mut self, told: &Told, granule: Option<Granule>) {
+        let Words { stage, onwalk, level, ipa, .. } = *told.words;
+        let past_input = || (ipa >> (64 - bits(told.q.vtcr_el2, 5, 0)) != 0).then(|| PAST_INPUT.to_string());
+        let ground = granule.filter(|_| stage == 2).and_then(|granule| no_start(told.q, granule).or_else(past_input));
         if let Some(ground) = ground {
             self.0.count(NO_START, by_granule(granule, ground));
-        } else if number == 1 && bits(told.last_but(0), 1, 0) == 1 {
+        } else if bits(told.last_but(0), 1, 0) == 1 {
             self.0.count(&type_01(stage, onwalk), by_granule(granule, level));
-        }
-        if number == 7 {
-            self.meet_contiguous(told, stage, level, told.last_but(0));
         }
     }
 
@@ -475,9 +489,6 @@ impl Classes {
             12 => self.meet_settings(told.q, told.words.item),
             13 => self.0.count("13 kind, EL or size", ""),
             _ => self.meet_accepted(told),
-        }
-        if told.words.number == 6 {
-            self.meet_absent(told);
         }
     }
 }

@@ -48,8 +48,8 @@ fn mair_el1(random: &mut Random) -> u64 {
 fn output_code(random: &mut Random, pamax: u64) -> u64 {
     let any = random.below(6);
     match random.below(10) {
-        0..=3 => SIZES.iter().position(|&size| size == pamax).map_or(any, |code| code as u64),
-        4..=6 => 5,
+        0 | 1 => SIZES.iter().position(|&size| size == pamax).map_or(any, |code| code as u64),
+        2..=7 => 5,
         _ => any,
     }
 }
@@ -90,7 +90,7 @@ fn input_sizes(granule: Granule, start: u64, most_bits: u64, largest: u64) -> Op
 
 /// An input size on either side of the contiguous rule's limit.
 fn contiguous_size(random: &mut Random, granule: Granule) -> u64 {
-    granule.contiguous_rule().1 - random.below(4)
+    granule.contiguous_rule().1 - random.pick(&[0, 0, 0, 0, 0, 1, 1, 1, 2, 3])
 }
 
 /// Any listed input size of stage 1, with each start level as often.
@@ -130,24 +130,36 @@ fn stage2_start(random: &mut Random, granule: Granule, pamax: u64, deep: bool) -
     };
     let starts: Vec<_> = (0..4).filter_map(sizes).collect();
     let (sl0, (low, high)) = if deep && random.percent(70) { starts[starts.len() - 1] } else { random.pick(&starts) };
+    let level = granule.stage2_start(sl0) as u64;
+    let single = granule.shift(level) + granule.stride();
     let size = match random.below(100) {
         0..=4 => low,
-        5..=9 => high,
-        10..=24 if granule.stage2_start(sl0) == granule.contiguous_rule().0 as i64 => contiguous_size(random, granule).min(high),
+        5..=14 => high,
+        15..=34 if level == granule.contiguous_rule().0 => contiguous_size(random, granule).min(high),
+        35..=49 if single < high => random.between(low.max(single + 1), high),
         _ => random.between(low, high),
     };
     (sl0, size)
 }
 
-/// Most have a start; at times any pair of SL0 and size.
+/// Any SL0, and a size of any kind or one just outside of the size check.
+fn any_start(random: &mut Random, granule: Granule) -> (u64, u64) {
+    let sl0 = random.below(4);
+    let shift = granule.shift(granule.stage2_start(sl0).max(0) as u64);
+    let size = match random.below(4) {
+        0 => shift.clamp(25, 48),
+        1 => (shift + granule.stride() + 5).clamp(25, 48),
+        _ => random.between(25, 48),
+    };
+    (sl0, size)
+}
+
+/// Most have a start.
 fn vtcr_el2(random: &mut Random, pamax: u64, deep: bool) -> u64 {
     let tg0 = tg0(random);
     let rest = tg0 << 14 | output_code(random, pamax) << 16 | unnamed(random, 0x7c0ff);
-    if random.percent(4) {
-        return random.between(16, 39) | random.below(4) << 6 | rest;
-    }
     let granule = Granule::of_tg0(tg0).unwrap_or(Granule::Of4KB);
-    let (sl0, size) = stage2_start(random, granule, pamax, deep);
+    let (sl0, size) = if random.percent(6) { any_start(random, granule) } else { stage2_start(random, granule, pamax, deep) };
     (64 - size) | sl0 << 6 | rest
 }
 
@@ -170,13 +182,14 @@ pub struct Plan {
 
 impl Plan {
     pub fn new(random: &mut Random) -> Plan {
-        let deep = random.percent(20);
-        let pamax = if deep { random.pick(&[44, 48]) } else { random.pick(&SIZES) };
+        let deep = random.percent(12);
+        // Many starts are for these alone.
+        let pamax = if deep || random.percent(15) { random.pick(&[44, 48]) } else { random.pick(&SIZES) };
         let (m, vm, dc) = match random.below(100) {
-            0..=54 => (1, 1, 0),
-            55..=70 => (1, 0, 0),
-            71..=84 => (0, 1, 0),
-            85..=93 => (random.one(60), random.one(50), 1),
+            0..=67 => (1, 1, 0),
+            68..=79 => (1, 0, 0),
+            80..=89 => (0, 1, 0),
+            90..=96 => (random.one(60), random.one(50), 1),
             _ => (0, 0, 0),
         };
         let (stage1, stage2) = (m == 1 && dc == 0, vm == 1 || dc == 1);
@@ -312,11 +325,13 @@ fn flip(random: &mut Random, word: &mut u64) {
     *word ^= 1 << random.below(64);
 }
 
-/// The address of a descriptor that the walk reads, if it reads any: damage elsewhere would seldom be met.
+/// The address of a descriptor that the walk reads, if it reads any: damage elsewhere would seldom be met. The last one is few of many.
 fn read_address(random: &mut Random, image: &Image, q: &Question) -> Option<u64> {
     let mut log = [0; 24];
     match walk::ask(q, Capture { base: image.base, bytes: &image.bytes }, &mut log) {
-        Answer::Translated { reads, .. } | Answer::Stopped { reads, .. } if reads > 0 => Some(random.pick(&log[..reads])),
+        Answer::Translated { reads, .. } | Answer::Stopped { reads, .. } if reads > 0 => {
+            Some(if random.percent(30) { log[reads - 1] } else { random.pick(&log[..reads]) })
+        }
         _ => None,
     }
 }
@@ -327,7 +342,7 @@ fn damage_descriptor(random: &mut Random, image: &mut Image, q: &Question) {
         if random.percent(75) { read_address(random, image, q) } else { (!image.written.is_empty()).then(|| random.pick(&image.written)) };
     if let Some(at) = at {
         let mut word = image.get(at);
-        match random.below(11) {
+        match random.below(13) {
             0 => word = random.word(),
             1 => word = word & !3 | random.bits(2),
             2 => word ^= 1 << 10,
@@ -335,7 +350,7 @@ fn damage_descriptor(random: &mut Random, image: &mut Image, q: &Question) {
             4 => word ^= random.bits(3) << 6,
             5 => word ^= random.bits(8) << 2,
             6 => word ^= 1 << random.between(52, 62),
-            7 => word |= 1 << random.between(q.pamax.min(47), 47),
+            7..=9 => word |= 1 << random.between(q.pamax.min(47), 47),
             _ => flip(random, &mut word),
         }
         image.set(at, word);
@@ -404,8 +419,8 @@ fn damage(random: &mut Random, image: &mut Image, question: Question) -> Asked {
             67..=74 => damage_number(random, &mut asked.question),
             75..=79 => flip(random, &mut asked.question.address),
             80..=82 => asked.question.address = random.word(),
-            83..=86 => asked.log_words = random.below(40) as usize,
-            87..=95 => cut(random, image, &mut asked),
+            83 | 84 => asked.log_words = random.below(40) as usize,
+            85..=96 => cut(random, image, &mut asked),
             _ => asked.part.move_away(random),
         }
     }
@@ -456,7 +471,7 @@ impl Questions {
         if self.of_built == 0 {
             self.plan = Plan::new(&mut self.random);
             build(&mut self.random, &mut self.built, &mut self.plan);
-            self.of_built = 4;
+            self.of_built = 2;
         } else {
             set_access(&mut self.random, &mut self.plan.question);
         }

@@ -149,7 +149,7 @@ pub fn stage1_leaf_bits(random: &mut Random) -> u64 {
     let ap = if random.percent(40) { 1 } else { random.below(4) };
     let ignored = if random.percent(25) { random.word() & (0x1ff << 55 | 0xf << 48 | 1 << 11 | 1 << 5) } else { 0 };
     let low = random.below(8) << 2 | ap << 6 | sh << 8 | random.one(97) << 10;
-    low | random.one(10) << 52 | random.one(20) << 53 | random.one(20) << 54 | ignored
+    low | random.one(40) << 52 | random.one(20) << 53 | random.one(20) << 54 | ignored
 }
 
 /// Bits of a stage 2 leaf beside type and address, for the access itself or for stage 1's descriptors. Those have to let most
@@ -167,7 +167,7 @@ pub fn stage2_leaf_bits(random: &mut Random, on_walk: bool) -> u64 {
     let sh = if settled { random.pick(&[0, 2, 3]) } else { random.below(4) };
     let ap = if random.percent(permitted) { 3 } else { random.below(4) };
     let ignored = if random.percent(25) { random.word() & (0x1ff << 55 | 1 << 53 | 0xf << 48 | 1 << 11) } else { 0 };
-    memory << 2 | ap << 6 | sh << 8 | random.one(98) << 10 | random.one(10) << 52 | random.one(12) << 54 | ignored
+    memory << 2 | ap << 6 | sh << 8 | random.one(98) << 10 | random.one(40) << 52 | random.one(12) << 54 | ignored
 }
 
 /// A stage 2 leaf that lets every on-walk read pass.
@@ -233,6 +233,7 @@ pub struct Builder<'a> {
     pub random: &'a mut Random,
     image: &'a mut Image,
     stage2: Option<Stage2>,
+    pamax: u64,
     /// The output size that stage 1 is built for.
     ipa_size: u64,
     /// All leaves at level 3, for long walks.
@@ -245,7 +246,7 @@ impl<'a> Builder<'a> {
     pub fn new(random: &'a mut Random, image: &'a mut Image, q: &Question, deep: bool) -> Builder<'a> {
         let passing = random.percent(60);
         let ipa_size = built_for(random).of_ips(q);
-        Builder { random, image, stage2: None, ipa_size, deep, passing }
+        Builder { random, image, stage2: None, pamax: q.pamax, ipa_size, deep, passing }
     }
 
     /// Makes room for stage 2's root, and gives VTTBR_EL2. If the registers have no start for which tables could be built, none are.
@@ -264,7 +265,7 @@ impl<'a> Builder<'a> {
     /// A level for a leaf: any that the granule has from the start on, or 3.
     fn leaf_level(&mut self, granule: Granule, start: u64) -> u64 {
         let first = if granule.allows_block(1) { 1 } else { 2 };
-        let level = if self.deep { 3 } else { self.random.pick(&[1, 1, 2, 2, 3, 3, 3]) };
+        let level = if self.deep { 3 } else { self.random.pick(&[1, 1, 1, 2, 2, 3, 3, 3]) };
         level.max(first).max(start)
     }
 
@@ -296,9 +297,11 @@ impl<'a> Builder<'a> {
         unreachable!("no entry of level 3 leads to a table")
     }
 
+    /// Writes a table descriptor. Now and then it has an address past PAMax.
     fn set_table(&mut self, at: u64, table: u64, granule: Granule) {
+        let past = if self.pamax < 48 && self.random.percent(5) { 1 << self.random.between(self.pamax, 47) } else { 0 };
         let ignored = ignored_address_bits(self.random, granule.log());
-        self.image.set(at, table | ignored | 3 | table_bits(self.random));
+        self.image.set(at, table | past | ignored | 3 | table_bits(self.random));
     }
 
     /// Room for a table of stage 1: the address by which stage 1 knows it. If stage 2 is on that is an IPA, and stage 2 maps the entry at
