@@ -96,7 +96,7 @@ impl Sound<'_> {
         let tried = [count - 1, self.random.below(count as u64) as usize, self.random.below(count as u64) as usize, 0];
         let parent = tried.into_iter().find(|&node| self.nodes[node].levels.iter().all(|&level| level < 3));
         let mut levels = vec![self.random.between(1, 3)];
-        if let Some(parent) = parent.filter(|_| self.random.percent(90)) {
+        if let Some(parent) = parent.filter(|_| self.random.percent(80)) {
             if let Some(index) = self.unused_entry(parent) {
                 let word = address | ignored_address_bits(self.random, self.granule.log()) | odd_bits(self.random) | 3;
                 self.set(parent, index, word);
@@ -115,7 +115,7 @@ impl Sound<'_> {
         range.end <= 1 << 48 && !touch(range, &(self.image.base..self.image.base + self.image.length()))
     }
 
-    /// Where leaves of some size and of so many bytes together go: at either end of the image, of a grant or of memory, or anywhere.
+    /// Where leaves of some size and of so many bytes together go: at or near an end of the image, of a grant or of memory, or anywhere.
     /// A granule or less may go between tables too. After some tries there is no place.
     fn place(&mut self, size: u64, total: u64) -> Option<Range<u64>> {
         if total <= self.granule.size() && self.random.percent(25) {
@@ -134,6 +134,7 @@ impl Sound<'_> {
                 3..=5 => near.end + size - 1,
                 6..=8 => near.start,
                 9 => (1 << 48) - total,
+                10 | 11 => near.end + FRAME,
                 _ => self.random.bits(width),
             });
             if self.is_free(&range) {
@@ -269,6 +270,11 @@ pub fn build(random: &mut Random, image: &mut Image) -> Asked {
     let granules = (image.base..image.base + image.length()).step_by(granule.size() as usize);
     let mut unused: Vec<u64> = granules.filter(|&start| !touch(&(start..start + granule.size()), &root_bytes)).collect();
     random.shuffle(&mut unused);
+    // The first table may be the last before 2^48.
+    if let Some(last) = unused.iter().position(|start| start + granule.size() == 1 << 48).filter(|_| random.percent(40)) {
+        let end = unused.len() - 1;
+        unused.swap(last, end);
+    }
     let large = image.length() == LARGE;
     // An audit of many large tables would take long.
     let most = if granule == Granule::Of64KB { 6 } else { 10 };

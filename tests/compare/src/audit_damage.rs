@@ -46,7 +46,7 @@ fn damage_entry(random: &mut Random, image: &mut Image, lists: &Lists, tables: &
         random.pick(&image.written)
     };
     let old = image.get(at);
-    let word = match random.below(12) {
+    let word = match random.below(14) {
         0 => random.word(),
         1 => old & !3 | random.bits(2),
         2 => old ^ odd_bits(random),
@@ -54,7 +54,7 @@ fn damage_entry(random: &mut Random, image: &mut Image, lists: &Lists, tables: &
         4 => random.word() & !3 | 1,
         // A table at another level, the root, a granted frame of the image, or one that is neither.
         5..=7 => frame(image.base + random.below(image.length())) | odd_bits(random) | 3,
-        8 => frame(random.pick(tables).address) | odd_bits(random) | 3,
+        8 | 9 => frame(if random.percent(50) { tables[0] } else { random.pick(tables) }.address) | odd_bits(random) | 3,
         _ => leaf_near(random, lists, &table),
     };
     image.set(at, word);
@@ -64,14 +64,18 @@ fn damage_entry(random: &mut Random, image: &mut Image, lists: &Lists, tables: &
 fn damage_grants(random: &mut Random, lists: &mut Lists, tables: &[Table]) {
     let mut granted = lists.granted();
     let chosen = (!granted.is_empty()).then(|| random.below(granted.len() as u64) as usize);
-    match (random.below(7), chosen) {
+    match (random.below(8), chosen) {
         (0, Some(at)) => granted[at].start += FRAME,
         (1, Some(at)) => granted[at].end -= FRAME,
         (2, Some(at)) => {
+            granted[at].start += FRAME;
+            granted[at].end -= FRAME;
+        }
+        (3, Some(at)) => {
             granted.remove(at);
         }
         // A frame in the middle is no longer granted.
-        (3, Some(at)) => {
+        (4, Some(at)) => {
             let Range { start, end } = granted[at];
             let middle = start + random.below((end - start) / FRAME) * FRAME;
             granted[at].end = middle;
@@ -85,7 +89,7 @@ fn damage_grants(random: &mut Random, lists: &mut Lists, tables: &[Table]) {
 
 /// A range that shares a frame with a table at either end, or just not.
 fn beside(random: &mut Random, tables: &[Table]) -> Range<u64> {
-    let bytes = if random.percent(40) { tables[0] } else { random.pick(tables) }.bytes();
+    let bytes = if random.percent(30) { tables[0] } else { random.pick(tables) }.bytes();
     let (first, end) = (frame(bytes.start), frame(bytes.end + FRAME - 1));
     let frames = random.between(1, 3) * FRAME;
     match random.below(7) {
@@ -142,7 +146,7 @@ fn odd(random: &mut Random) -> u64 {
 
 /// Less than a granule: less than a frame, or some frames.
 fn odd_in_granule(random: &mut Random, size: u64) -> u64 {
-    if size > FRAME && random.percent(70) {
+    if size > FRAME && random.percent(60) {
         random.between(1, size / FRAME - 1) * FRAME
     } else {
         odd(random)
@@ -203,21 +207,21 @@ fn malform_grants(random: &mut Random, image: &Image, lists: &mut Lists) {
 /// Makes a list of tables of some size malformed, or nearly.
 fn malform_tables(random: &mut Random, lists: &mut Lists, size: u64) {
     let at = random.below(lists.tables.len() as u64) as usize;
-    match random.below(8) {
+    match random.below(10) {
         0 => {
             let list = if random.percent(50) { &mut lists.tables } else { &mut lists.levels };
             change_length(random, list, 1);
         }
         1 => pad_tables(lists, MOST_TABLES + random.below(3) as usize, size),
-        2 => lists.tables[at] += odd_in_granule(random, size),
-        3 => {
+        2 | 3 => lists.tables[at] += odd_in_granule(random, size),
+        4 | 5 => {
             let across = (1 << 48) - size + odd_in_granule(random, size);
-            lists.tables.push(random.pick(&[(1 << 48) - size, across, 1 << 48, 1 << 63, 0u64.wrapping_sub(size)]));
+            lists.tables.push(random.pick(&[(1 << 48) - size, across, across, across, 1 << 48, 1 << 63, 0u64.wrapping_sub(size)]));
             lists.levels.push(random.between(1, 3));
         }
-        4 => lists.levels[at] = random.pick(&[0, 4, 5, 256 | 3, 1 << 32 | 2, 1 << 63 | 1, u64::MAX]),
+        6 => lists.levels[at] = random.pick(&[0, 4, 5, 256 | 3, 1 << 32 | 2, 1 << 63 | 1, u64::MAX]),
         // The same address once more, with the same level or another, in either order.
-        5 | 6 => {
+        7 | 8 => {
             lists.tables.insert(at, lists.tables[at]);
             lists.levels.insert(at, random.between(1, 3));
         }
@@ -262,7 +266,7 @@ fn damage_registers(random: &mut Random, q: &mut Question) {
     let granule = granule_or_4kb(q);
     let start = granule.stage2_start(bits(q.vtcr_el2, 7, 6)).max(0) as u64;
     let mut size = 64 - bits(q.vtcr_el2, 5, 0);
-    match random.below(13) {
+    match random.below(16) {
         0 => damage_el2_register(random, q),
         1 => {
             q.hcr_el2 &= !(1 | 1 << 12);
@@ -281,27 +285,27 @@ fn damage_registers(random: &mut Random, q: &mut Question) {
         2 => q.sctlr_el2 |= 1 << 25,
         3 => q.pamax = if random.percent(50) { unlisted_pamax(random) } else { random.pick(&SIZES) },
         4 => put(&mut q.vtcr_el2, 7, 6, random.below(4)),
-        5 => {
+        5..=7 => {
             let most = granule.stride() + 4;
-            size = granule.shift(start) + random.pick(&[0, 1, most, most + 1, most + 2]) - random.one(20);
+            size = granule.shift(start) + random.pick(&[0, 1, most, most + 1, most + 2]) - random.pick(&[0, 0, 0, 1, 4]);
         }
         // Starts that PAMax forbids.
-        6 => {
+        8 | 9 => {
             q.pamax = random.pick(&[40, 42, 44, 48]);
             put(&mut q.vtcr_el2, 7, 6, random.pick(&[2, 2, 3]));
             let first = granule.stage2_start(2) as u64;
             size = random.between(granule.shift(first).min(q.pamax), q.pamax);
         }
-        7 => {
+        10 => {
             put(&mut q.vtcr_el2, 18, 16, random.below(6));
             // A PAMax that is not listed may be any number.
             let output_size = OutputSize::Lowered.of_ps(q).clamp(32, 47);
             q.vttbr_el2 |= 1 << if random.percent(50) { output_size } else { random.between(output_size - 1, 47) };
         }
-        8 => put(&mut q.vtcr_el2, 18, 16, random.pick(&[5, 6, 7])),
-        9 => size = random.pick(&[64 - 15, 64 - 16, 64 - 39, 64 - 40, 1, 64]),
-        10 => size = q.pamax.wrapping_add(random.below(2)),
-        11 => put(&mut q.vtcr_el2, 15, 14, random.below(4)),
+        11 => put(&mut q.vtcr_el2, 18, 16, random.pick(&[5, 6, 7])),
+        12 => size = random.pick(&[64 - 15, 64 - 16, 64 - 39, 64 - 40, 1, 64]),
+        13 => size = q.pamax.wrapping_add(random.below(2)),
+        14 => put(&mut q.vtcr_el2, 15, 14, random.below(4)),
         _ => q.hcr_el2 ^= 1 << random.pick(&[0u64, 12, 27, 31]),
     }
     put(&mut q.vtcr_el2, 5, 0, 64u64.wrapping_sub(size));
@@ -313,11 +317,19 @@ fn cut(random: &mut Random, image: &Image, asked: &mut Asked, tables: &[Table]) 
     let edge = if random.percent(50) { bytes.start } else { bytes.end } - image.base;
     let at = match random.below(6) {
         0 => random.below(image.length() + 1),
-        1 | 2 => edge + random.pick(&[1, 8]),
-        3 | 4 => edge.saturating_sub(random.pick(&[1, 8])),
+        1 | 2 => edge + random.pick(&[1, 1, 8]),
+        3 | 4 => edge.saturating_sub(random.pick(&[1, 1, 8])),
         _ => edge,
     };
     asked.part.cut(random, image, at);
+}
+
+/// Turns stage 2 off and moves a table by some frames, which is off the granule but not malformed then.
+fn move_tables(random: &mut Random, asked: &mut Asked) {
+    asked.question.hcr_el2 &= !(1 | 1 << 12);
+    if let Some(last) = asked.lists.tables.last_mut() {
+        *last += random.between(1, 3) * FRAME;
+    }
 }
 
 /// Changes one thing. The tables are those that lie in the image.
@@ -325,16 +337,17 @@ fn change(random: &mut Random, image: &mut Image, asked: &mut Asked, malformed: 
     // Malformed lists are left so, and without tables none can be damaged.
     let first = match tables {
         _ if malformed => 81,
-        [] => 65,
+        [] => 66,
         _ => 0,
     };
     match random.between(first, 99) {
         0..=33 => damage_entry(random, image, &asked.lists, tables),
-        34..=46 => damage_grants(random, &mut asked.lists, tables),
-        47..=54 => damage_tables(random, image, &mut asked.lists, tables),
-        55..=64 => cut(random, image, asked, tables),
-        65..=80 => malform(random, image, &mut asked.lists, granule_or_4kb(&asked.question)),
-        81..=96 => damage_registers(random, &mut asked.question),
+        34..=49 => damage_grants(random, &mut asked.lists, tables),
+        50..=56 => damage_tables(random, image, &mut asked.lists, tables),
+        57..=65 => cut(random, image, asked, tables),
+        66..=80 => malform(random, image, &mut asked.lists, granule_or_4kb(&asked.question)),
+        81..=95 => damage_registers(random, &mut asked.question),
+        96 => move_tables(random, asked),
         _ => asked.part.move_away(random),
     }
 }
@@ -372,7 +385,7 @@ impl Audits {
             return self.next_large(n);
         }
         let mut asked = build(&mut self.random, &mut self.small);
-        let changes = self.random.pick(&[0, 0, 0, 0, 1, 1, 1, 1, 1, 1, 2, 2]);
+        let changes = self.random.pick(&[0, 0, 0, 1, 1, 1, 1, 1, 1, 1, 2, 2]);
         damage(&mut self.random, &mut self.small, &mut asked, changes);
         (&mut self.small, asked)
     }

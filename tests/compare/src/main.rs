@@ -26,7 +26,7 @@ compare random COUNT SEED   compare the proved function with the walk on COUNT r
 compare batches COUNT SEED  compare the proved batch with the walk on COUNT random batches
 compare audits COUNT SEED   compare the proved audit with the independent one on COUNT random audits
 The last line is 'N compared, M differ'. Exit status 0 exactly when M is 0, vectors were read, and no class was missed by
-200,000 random questions, 2,000 random batches or 20,000 random audits or more; 2 for bad arguments.";
+200,000 random questions, 2,000 random batches or 40,000 random audits or more; 2 for bad arguments.";
 
 /// From this many random questions on, a class that is missed is an error.
 const ALL_CLASSES: u64 = 200_000;
@@ -35,7 +35,7 @@ const ALL_CLASSES: u64 = 200_000;
 const ALL_BATCHES: u64 = 2_000;
 
 /// From this many random audits on, a class that is missed is an error.
-const ALL_AUDITS: u64 = 20_000;
+const ALL_AUDITS: u64 = 40_000;
 
 /// Disagreements printed in full: after a gross error there would be many thousands.
 const PRINTED: u64 = 20;
