@@ -1,6 +1,7 @@
 //! Compares the proved batch with the independent walk, address by address.
-use crate::classes::{Counts, Granules};
+use crate::counts::Counts;
 use crate::generate::Questions;
+use crate::geometry::Granules;
 use crate::proved::{self, BatchWords, Words};
 use crate::random::Random;
 use crate::walk::{self, Capture, Question};

@@ -1,197 +1,9 @@
-//! Counts questions by class, so that a generator that no longer reaches some class is seen.
+//! The classes of questions.
+use crate::counts::Counts;
+use crate::geometry::{by_granule, is_leaf_level, levels, no_start, no_starts, start_names, Granules, Stage};
 use crate::proved::Words;
 use crate::walk::{bit, bits, is_listed, picks_upper, stage1_on, stage2_on, Capture, Granule, Half, Question, GRANULES, SIZES};
-use std::collections::BTreeMap;
-use std::fmt::{Display, Formatter};
 
-/// Classes by row and column, each with how often it was met.
-#[derive(Default)]
-pub struct Counts(BTreeMap<(String, String), u64>);
-
-impl Counts {
-    /// Adds classes that are not met yet.
-    pub fn add<T: ToString>(&mut self, row: &str, columns: impl IntoIterator<Item = T>) {
-        for column in columns {
-            self.0.insert((row.to_string(), column.to_string()), 0);
-        }
-    }
-
-    pub fn count(&mut self, row: &str, column: impl ToString) {
-        *self.0.entry((row.to_string(), column.to_string())).or_insert(0) += 1;
-    }
-
-    /// Prints a line for each row.
-    pub fn print(&self) {
-        let mut last = "";
-        for ((row, column), count) in &self.0 {
-            if row != last {
-                print!("{}{row}:", if last.is_empty() { "" } else { "\n" });
-                last = row;
-            }
-            print!(" {column}{}{count}", if column.is_empty() { "" } else { "=" });
-        }
-        println!();
-    }
-
-    /// The classes that were never met.
-    pub fn missed(&self) -> Vec<String> {
-        self.0.iter().filter(|(_, &count)| count == 0).map(|((row, column), _)| format!("{row} {column}").trim().to_string()).collect()
-    }
-}
-
-/// The name of a granule, or of none for a stage that is off.
-pub fn granule_name(granule: Option<Granule>) -> &'static str {
-    match granule {
-        Some(Granule::Of4KB) => "4K",
-        Some(Granule::Of16KB) => "16K",
-        Some(Granule::Of64KB) => "64K",
-        None => "-",
-    }
-}
-
-/// A column for a granule and what is told of it.
-pub fn by_granule(granule: Option<Granule>, told: impl Display) -> String {
-    format!("{}:{told}", granule_name(granule))
-}
-
-/// The granules of stage 1, in the half that the address picks, and of stage 2; none of a stage that is off.
-#[derive(Clone, Copy)]
-pub struct Granules {
-    one: Option<Granule>,
-    two: Option<Granule>,
-}
-
-impl Granules {
-    /// For settings that pass. Nothing for a disabled half, which need have no granule.
-    pub fn new(q: &Question) -> Option<Granules> {
-        let half = Half::new(q.tcr_el1, picks_upper(q));
-        if stage1_on(q) && half.disabled {
-            return None;
-        }
-        Some(Granules { one: half.granule.filter(|_| stage1_on(q)), two: Granule::of_stage2(q).filter(|_| stage2_on(q)) })
-    }
-
-    /// The nine of two stages, those of one, and that of none.
-    pub fn all() -> Vec<Granules> {
-        let stage = || GRANULES.into_iter().map(Some).chain([None]);
-        stage().flat_map(|one| stage().map(move |two| Granules { one, two })).collect()
-    }
-
-    fn of(self, stage: u64) -> Option<Granule> {
-        if stage == 1 {
-            self.one
-        } else {
-            self.two
-        }
-    }
-
-    /// The stage and the on-walk word of answers 1 to 4, 6 and 7, of which a stage that is off has none but its own address size fault.
-    fn places(self) -> Vec<(u64, u64)> {
-        let (one, two) = (self.one.is_some(), self.two.is_some());
-        let all = [((1, 0), one), ((2, 0), two), ((2, 1), one && two)];
-        all.into_iter().filter(|place| place.1).map(|place| place.0).collect()
-    }
-}
-
-impl Display for Granules {
-    fn fmt(&self, f: &mut Formatter) -> std::fmt::Result {
-        write!(f, "{}/{}", granule_name(self.one), granule_name(self.two))
-    }
-}
-
-/// A stage that is on, by registers that give it a start.
-struct Stage {
-    granule: Granule,
-    input_size: u64,
-    start: u64,
-}
-
-impl Stage {
-    fn new(q: &Question, stage: u64) -> Stage {
-        let half = Half::new(q.tcr_el1, picks_upper(q));
-        let (granule, input_size) =
-            if stage == 1 { (half.granule, half.input_size()) } else { (Granule::of_stage2(q), 64 - bits(q.vtcr_el2, 5, 0)) };
-        let granule = granule.expect("the settings refuse a reserved code");
-        let start = if stage == 1 { granule.stage1_start(input_size) } else { granule.stage2_start(bits(q.vtcr_el2, 7, 6)) as u64 };
-        Stage { granule, input_size, start }
-    }
-
-    fn index_bits(&self) -> u64 {
-        self.input_size - self.granule.shift(self.start)
-    }
-
-    /// The start level, with a mark if the root is of concatenated tables.
-    fn start_name(&self) -> String {
-        format!("{}{}", self.start, if self.index_bits() > self.granule.stride() { "+" } else { "" })
-    }
-}
-
-/// The start levels of a granule, with marks where there are concatenated roots.
-fn start_names(granule: Granule, stage: u64) -> &'static [&'static str] {
-    match (granule, stage) {
-        (Granule::Of4KB, 1) => &["0", "1", "2"],
-        (Granule::Of16KB, 1) => &["0", "1", "2", "3"],
-        (Granule::Of64KB, 1) => &["1", "2", "3"],
-        (Granule::Of4KB, _) => &["0", "1", "1+", "2", "2+"],
-        (Granule::Of16KB, _) => &["1", "1+", "2", "2+", "3", "3+"],
-        (Granule::Of64KB, _) => &["1", "2", "2+", "3", "3+"],
-    }
-}
-
-/// The levels at which a stage has descriptors.
-fn levels(granule: Granule, stage: u64) -> std::ops::RangeInclusive<u64> {
-    match (granule, stage) {
-        (Granule::Of4KB, _) | (Granule::Of16KB, 1) => 0..=3,
-        _ => 1..=3,
-    }
-}
-
-pub fn is_leaf_level(granule: Granule, level: u64) -> bool {
-    level == 3 || granule.allows_block(level)
-}
-
-/// The level of stage 2's first start that PAMax may forbid, and the largest PAMax that does.
-fn pamax_rule(granule: Granule) -> (i64, u64) {
-    match granule {
-        Granule::Of4KB => (0, 42),
-        Granule::Of16KB => (1, 40),
-        Granule::Of64KB => (1, 42),
-    }
-}
-
-/// Why stage 2 has no start for any IPA, if it has none.
-pub fn no_start(q: &Question, granule: Granule) -> Option<String> {
-    let (size, level) = (64 - bits(q.vtcr_el2, 5, 0) as i64, granule.stage2_start(bits(q.vtcr_el2, 7, 6)));
-    let (log, stride) = (granule.log() as i64, granule.stride() as i64);
-    let (check, most) = (size - ((3 - level) * stride + log), stride + 4);
-    let (first, forbidden) = pamax_rule(granule);
-    let fits = (1..=most).contains(&check);
-    if level < first {
-        return Some(format!("level {level}"));
-    }
-    if level == first && q.pamax <= forbidden {
-        let pamax = if q.pamax == forbidden { forbidden.to_string() } else { "less".to_string() };
-        return Some(format!("level {level}, PAMax {pamax}{}", if fits { "" } else { ", size check" }));
-    }
-    match check {
-        _ if fits => None,
-        i64::MIN..=-1 => Some("size check under 0".to_string()),
-        _ if check > most + 1 => Some(format!("size check over {}", most + 1)),
-        _ => Some(format!("size check {check}")),
-    }
-}
-
-/// All grounds for a granule. No size that 64KB at level 1 takes is within a PAMax that forbids it.
-pub fn no_starts(granule: Granule) -> Vec<&'static str> {
-    let own: [&[&str]; 2] = match granule {
-        Granule::Of4KB => [&["level -1", "level 0, PAMax 42", "level 0, PAMax less"], &["size check 14", "size check over 14"]],
-        Granule::Of16KB => [&["level 0", "level 1, PAMax 40"], &["size check 16", "size check over 16"]],
-        Granule::Of64KB => [&["level 0", "level 1, PAMax 42, size check"], &["size check 18", "size check over 18"]],
-    };
-    [own.concat(), vec!["size check under 0", "size check 0"]].concat()
-}
-
-/// The classes of questions.
 pub struct Classes(pub Counts);
 
 const MEANINGS: [&str; 8] =
@@ -366,7 +178,7 @@ impl Classes {
             all.add(&index_bits(stage), (1..=most).map(|bits| by_granule(Some(granule), format!("{bits:02}"))));
         }
         all.add(NO_START, no_starts(granule).into_iter().chain([PAST_INPUT]).map(|ground| by_granule(Some(granule), ground)));
-        all.add(LEAST_PAMAX, [by_granule(Some(granule), pamax_rule(granule).0)]);
+        all.add(LEAST_PAMAX, [by_granule(Some(granule), granule.first_stage2_start().0)]);
     }
 
     /// Counts a question that the lowering decides, by its answer. A base register is tested before the first read, an entry after it.
@@ -397,7 +209,7 @@ impl Classes {
             self.0.count(&index_bits(stage), by_granule(granules.of(stage), format!("{:02}", root.index_bits())));
             self.meet_contiguous(told, stage, level, told.last_but(after));
             after = level + 1 - root.start;
-            let (first, forbidden) = pamax_rule(root.granule);
+            let (first, forbidden) = root.granule.first_stage2_start();
             let least = SIZES.into_iter().find(|&size| size > forbidden);
             if stage == 2 && root.start as i64 == first && Some(told.q.pamax) == least {
                 self.0.count(LEAST_PAMAX, by_granule(granules.two, first));

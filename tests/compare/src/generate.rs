@@ -183,7 +183,7 @@ pub struct Plan {
 impl Plan {
     pub fn new(random: &mut Random) -> Plan {
         let deep = random.percent(12);
-        // Many starts are for these alone.
+        // Some starts are for these alone.
         let pamax = if deep || random.percent(15) { random.pick(&[44, 48]) } else { random.pick(&SIZES) };
         let (m, vm, dc) = match random.below(100) {
             0..=67 => (1, 1, 0),
@@ -325,7 +325,8 @@ fn flip(random: &mut Random, word: &mut u64) {
     *word ^= 1 << random.below(64);
 }
 
-/// The address of a descriptor that the walk reads, if it reads any: damage elsewhere would seldom be met. The last one is few of many.
+/// The address of a descriptor that the walk reads, if it reads any: damage elsewhere would seldom be met. The last
+/// is taken more often, for it would else seldom be met in a long walk.
 fn read_address(random: &mut Random, image: &Image, q: &Question) -> Option<u64> {
     let mut log = [0; 24];
     match walk::ask(q, Capture { base: image.base, bytes: &image.bytes }, &mut log) {

@@ -1,11 +1,14 @@
 //! Compares the proved functions with an independent walk and audit, and both with answers from outside.
 mod audit;
 mod audit_build;
+mod audit_classes;
 mod audit_damage;
 mod audits;
 mod batches;
 mod classes;
+mod counts;
 mod generate;
+mod geometry;
 mod proved;
 mod random;
 mod tables;

@@ -68,8 +68,8 @@ impl Image {
         self.base = base;
     }
 
-    /// Whether no call has written the image. Of a long image it would take long to see that of each: all bytes are compared after some
-    /// calls, and a word before it is set again, so that no write escapes.
+    /// Whether no call has written the image. To compare all bytes for each call would take long: it is done for one of many, and a word
+    /// that is set is compared before, so that no write is lost.
     pub fn kept(&mut self) -> bool {
         self.calls += 1;
         if self.calls % WATCHED == 0 {

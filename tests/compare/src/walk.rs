@@ -255,14 +255,18 @@ impl Granule {
         }
     }
 
-    pub fn allows_stage2_start(self, level: i64, pamax: u64) -> bool {
-        match (self, level) {
-            (Granule::Of4KB, 0) => pamax > 42,
-            (Granule::Of16KB, 1) => pamax > 40,
-            (Granule::Of64KB, 1) => pamax > 42,
-            (Granule::Of4KB, 1) | (_, 2 | 3) => true,
-            _ => false,
+    /// The first level that stage 2 may start at, and the largest PAMax with which it may not.
+    pub fn first_stage2_start(self) -> (i64, u64) {
+        match self {
+            Granule::Of4KB => (0, 42),
+            Granule::Of16KB => (1, 40),
+            Granule::Of64KB => (1, 42),
         }
+    }
+
+    pub fn allows_stage2_start(self, level: i64, pamax: u64) -> bool {
+        let (first, forbidden) = self.first_stage2_start();
+        level > first || level == first && pamax > forbidden
     }
 }
 
