@@ -65,11 +65,11 @@ fn index_bits(stage: u64) -> String {
     format!(" 0 translated, by granule and bits of stage {stage}'s root index")
 }
 
-const LEAST_PAMAX: &str = " 0 translated, by stage 2's start at the least PAMax for it";
-const NO_START: &str = " 1 stage 2 without a start, by granule and ground";
-
-/// A ground for one IPA.
+/// A ground of a fault before stage 2's base, for one IPA alone.
 const PAST_INPUT: &str = "IPA past its size";
+
+const LEAST_PAMAX: &str = " 0 translated, by stage 2's start at the least PAMax for it";
+const NO_START: &str = " 1 stage 2 before its base, by granule and ground";
 const DISABLED: &str = " 1 disabled half, by granule code";
 const FIRST_BYTES: &str = " 6 first bytes of the descriptor there, by number";
 const LAST_BYTES: &str = " 6 last bytes of the descriptor there, by number";
@@ -209,11 +209,18 @@ impl Classes {
             self.0.count(&index_bits(stage), by_granule(granules.of(stage), format!("{:02}", root.index_bits())));
             self.meet_contiguous(told, stage, level, told.last_but(after));
             after = level + 1 - root.start;
-            let (first, forbidden) = root.granule.first_stage2_start();
-            let least = SIZES.into_iter().find(|&size| size > forbidden);
-            if stage == 2 && root.start as i64 == first && Some(told.q.pamax) == least {
-                self.0.count(LEAST_PAMAX, by_granule(granules.two, first));
-            }
+        }
+        if let Some(granule) = granules.two {
+            self.meet_least_pamax(told.q, granule);
+        }
+    }
+
+    /// Counts a start of stage 2 that PAMax just allows.
+    fn meet_least_pamax(&mut self, q: &Question, granule: Granule) {
+        let (first, forbidden) = granule.first_stage2_start();
+        let least = SIZES.into_iter().find(|&size| size > forbidden);
+        if Stage::new(q, 2).start as i64 == first && Some(q.pamax) == least {
+            self.0.count(LEAST_PAMAX, by_granule(Some(granule), first));
         }
     }
 
@@ -230,7 +237,7 @@ impl Classes {
         }
     }
 
-    /// Counts a translation fault that is not for an address of stage 1, nor for a descriptor whose bit 0 is 0.
+    /// Counts a translation fault for the start of stage 2, or for a type 01.
     fn meet_translation(&mut self, told: &Told, granule: Option<Granule>) {
         let Words { stage, onwalk, level, ipa, .. } = *told.words;
         let past_input = || (ipa >> (64 - bits(told.q.vtcr_el2, 5, 0)) != 0).then(|| PAST_INPUT.to_string());

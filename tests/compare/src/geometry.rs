@@ -49,7 +49,7 @@ impl Granules {
         }
     }
 
-    /// The stage and the on-walk word of answers 1 to 4, 6 and 7, of which a stage that is off has none but its own address size fault.
+    /// Where a table walk may stop: the stage and the on-walk word.
     pub fn places(self) -> Vec<(u64, u64)> {
         let (one, two) = (self.one.is_some(), self.two.is_some());
         let all = [((1, 0), one), ((2, 0), two), ((2, 1), one && two)];
