@@ -324,11 +324,11 @@ fn cut(random: &mut Random, image: &Image, asked: &mut Asked, tables: &[Table]) 
     asked.part.cut(random, image, at);
 }
 
-/// Turns stage 2 off and moves a table by some frames, which is off the granule but not malformed then.
-fn move_tables(random: &mut Random, asked: &mut Asked) {
+/// Turns stage 2 off and moves a table by some frames: off a larger granule, but not malformed then.
+fn move_table(random: &mut Random, asked: &mut Asked) {
     asked.question.hcr_el2 &= !(1 | 1 << 12);
     if let Some(last) = asked.lists.tables.last_mut() {
-        *last += random.between(1, 3) * FRAME;
+        *last = last.wrapping_add(random.between(1, 3) * FRAME);
     }
 }
 
@@ -347,7 +347,7 @@ fn change(random: &mut Random, image: &mut Image, asked: &mut Asked, malformed: 
         57..=65 => cut(random, image, asked, tables),
         66..=80 => malform(random, image, &mut asked.lists, granule_or_4kb(&asked.question)),
         81..=95 => damage_registers(random, &mut asked.question),
-        96 => move_tables(random, asked),
+        96 => move_table(random, asked),
         _ => asked.part.move_away(random),
     }
 }
