@@ -68,6 +68,7 @@ fn index_bits(stage: u64) -> String {
 /// A ground of a fault before stage 2's base, for one IPA alone.
 const PAST_INPUT: &str = "IPA past its size";
 
+const HALVES: &str = " 0 translated, by granule and base register of stage 1";
 const LEAST_PAMAX: &str = " 0 translated, by stage 2's start at the least PAMax for it";
 const NO_START: &str = " 1 stage 2 before its base, by granule and ground";
 const DISABLED: &str = " 1 disabled half, by granule code";
@@ -178,6 +179,7 @@ impl Classes {
             all.add(&index_bits(stage), (1..=most).map(|bits| by_granule(Some(granule), format!("{bits:02}"))));
         }
         all.add(NO_START, no_starts(granule).into_iter().chain([PAST_INPUT]).map(|ground| by_granule(Some(granule), ground)));
+        all.add(HALVES, ["TTBR0", "TTBR1"].map(|register| by_granule(Some(granule), register)));
         all.add(LEAST_PAMAX, [by_granule(Some(granule), granule.first_stage2_start().0)]);
     }
 
@@ -209,6 +211,9 @@ impl Classes {
             self.0.count(&index_bits(stage), by_granule(granules.of(stage), format!("{:02}", root.index_bits())));
             self.meet_contiguous(told, stage, level, told.last_but(after));
             after = level + 1 - root.start;
+        }
+        if granules.one.is_some() {
+            self.0.count(HALVES, by_granule(granules.one, if picks_upper(told.q) { "TTBR1" } else { "TTBR0" }));
         }
         if let Some(granule) = granules.two {
             self.meet_least_pamax(told.q, granule);
