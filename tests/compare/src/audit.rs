@@ -1,8 +1,9 @@
-//! An independent audit: "The audit" of document 01 in plain Rust, written without regard to the proved code.
-use crate::walk::{bits, failing_item, shift, stage2_on, Capture, OutputSize, Question, Start};
+//! An independent audit: "The audit" of document 01, with document 02, §2 and §3, in plain Rust, written without regard to the proved
+//! code.
+use crate::walk::{bits, failing_item, stage2_on, Capture, Granule, OutputSize, Question, Start};
 use std::ops::Range;
 
-/// Addresses and counts are multiples of this, and so many bytes has a listed table.
+/// Addresses and counts of grants are multiples of this.
 pub const FRAME: u64 = 4096;
 
 pub const MOST_GRANTS: usize = 256;
@@ -42,8 +43,8 @@ impl Lists {
         self.grants().iter().map(|&(address, count)| address..address.wrapping_add(count)).collect()
     }
 
-    /// Every ground of answer 15, and whether the lists have it.
-    pub fn grounds(&self) -> [(&'static str, bool); 14] {
+    /// Every ground of answer 15, and whether the lists have it with listed tables of so many bytes.
+    pub fn grounds(&self, table_size: u64) -> [(&'static str, bool); 14] {
         let (grants, tables) = (self.grants(), self.tables());
         // Sums are of unbounded numbers.
         let end = |address: u64, count: u64| u128::from(address) + u128::from(count);
@@ -59,21 +60,28 @@ impl Lists {
             ("grant order", grants.windows(2).any(|pair| gap(pair) < 0)),
             ("tables unequal", self.tables.len() != self.levels.len()),
             ("over 1024 tables", self.tables.len() > MOST_TABLES || self.levels.len() > MOST_TABLES),
-            ("table address", self.tables.iter().any(|address| address % FRAME != 0)),
-            ("table end", self.tables.iter().any(|&address| end(address, FRAME) > 1 << 48)),
+            ("table address", self.tables.iter().any(|address| address % table_size != 0)),
+            ("table end", self.tables.iter().any(|&address| end(address, table_size) > 1 << 48)),
             ("level", self.levels.iter().any(|level| !(1..=3).contains(level))),
             ("table order", tables.windows(2).any(|pair| pair[0] >= pair[1])),
         ]
     }
 
-    pub fn are_malformed(&self) -> bool {
-        self.grounds().iter().any(|ground| ground.1)
+    /// For settings that pass, though a reserved granule has an answer too.
+    pub fn are_malformed(&self, q: &Question) -> bool {
+        self.grounds(table_size(q)).iter().any(|ground| ground.1)
     }
+}
+
+/// How many bytes a listed table has, and what its address is a multiple of: stage 2's granule, or a frame if stage 2 is off.
+pub fn table_size(q: &Question) -> u64 {
+    Granule::of_stage2(q).filter(|_| stage2_on(q)).map_or(FRAME, Granule::size)
 }
 
 /// The root or a listed table.
 #[derive(Clone, Copy)]
 pub struct Table {
+    pub granule: Granule,
     pub address: u64,
     pub level: u64,
     pub entries: u64,
@@ -91,18 +99,25 @@ pub fn failing_setting(q: &Question) -> Option<u64> {
     failing_item(&Question { sctlr_el1: 0, ..*q })
 }
 
-/// Stage 2's root, with all entries of one that is concatenated; none if every IPA faults before any read. That does not depend
-/// on the IPA, but for one too large.
-fn root(q: &Question) -> Option<Table> {
+/// Stage 2's root, with all entries of one that is concatenated; none if stage 2 is off, or every IPA faults before any read. That does
+/// not depend on the IPA, but for one too large. For settings that pass.
+pub fn root(q: &Question) -> Option<Table> {
+    if !stage2_on(q) {
+        return None;
+    }
     let start = Start::stage2(q, 0, OutputSize::Lowered).ok()?;
-    Some(Table { address: start.table, level: start.level, entries: 1 << (start.input_size - shift(start.level)), listed: false })
+    Some(Table { granule: start.granule, address: start.table, level: start.level, entries: start.entries(), listed: false })
 }
 
 /// All tables in the order of the audit, the root first; none where there is no root. For settings that pass.
 pub fn tables(q: &Question, lists: &Lists) -> Vec<Table> {
-    let root = if stage2_on(q) { root(q) } else { None };
-    let listed = lists.tables().into_iter().map(|(address, level)| Table { address, level, entries: FRAME / 8, listed: true });
-    root.into_iter().flat_map(|root| std::iter::once(root).chain(listed.clone())).collect()
+    let root = match root(q) {
+        Some(root) => root,
+        None => return Vec::new(),
+    };
+    let of_granule = Table { entries: 1 << root.granule.stride(), listed: true, ..root };
+    let listed = lists.tables().into_iter().map(|(address, level)| Table { address, level, ..of_granule });
+    std::iter::once(root).chain(listed).collect()
 }
 
 /// What an audit makes of an entry.
@@ -113,16 +128,19 @@ pub enum Entry {
 }
 
 /// Flags do not count, nor does the output size.
-pub fn entry(descriptor: u64, level: u64) -> Entry {
-    match (bits(descriptor, 1, 0), level) {
-        (0b11, 0..=2) => Entry::Table(bits(descriptor, 47, 12) << 12),
-        (0b11, 3) | (0b01, 1 | 2) => {
-            let low = shift(level);
-            let address = bits(descriptor, 47, low) << low;
-            Entry::Leaf(address..address + (1 << low))
-        }
-        _ => Entry::PassedOver,
+pub fn entry(descriptor: u64, table: &Table) -> Entry {
+    let address = |low: u64| bits(descriptor, 47, low) << low;
+    let is_leaf = match bits(descriptor, 1, 0) {
+        0b11 if table.level < 3 => return Entry::Table(address(table.granule.log())),
+        0b11 => true,
+        0b01 => table.granule.allows_block(table.level),
+        _ => false,
+    };
+    if !is_leaf {
+        return Entry::PassedOver;
     }
+    let low = table.granule.shift(table.level);
+    Entry::Leaf(address(low)..address(low) + (1 << low))
 }
 
 /// Whether two ranges share a byte.
@@ -155,7 +173,7 @@ fn examine(table: Table, capture: Capture, grants: &[Range<u64>], listed: &[(u64
     }
     for at in bytes.step_by(8) {
         let descriptor = capture.descriptor(at).expect("the table is whole in the capture");
-        match entry(descriptor, table.level) {
+        match entry(descriptor, &table) {
             Entry::Table(next) if !listed.contains(&(next, table.level + 1)) => return found(3, at),
             Entry::Leaf(leaf) if !grants.iter().any(|grant| inside(&leaf, grant)) => return found(4, at),
             _ => {}
@@ -186,7 +204,7 @@ pub fn audit(q: &Question, capture: Capture, lists: &Lists) -> Verdict {
     if let Some(item) = failing_setting(q) {
         return Verdict::Refused(Refusal::Settings(item));
     }
-    if lists.are_malformed() {
+    if lists.are_malformed(q) {
         return Verdict::Refused(Refusal::Lists);
     }
     let tables = tables(q, lists);

@@ -3,7 +3,7 @@ use crate::audit::{failing_setting, touch, Lists, FRAME, MOST_GRANTS, MOST_TABLE
 use crate::generate::{built_for, table_base, Plan};
 use crate::random::Random;
 use crate::tables::{ignored_address_bits, stage2_leaf_bits, Builder, Image, Part};
-use crate::walk::{bits, shift, OutputSize, Question, Start};
+use crate::walk::{bits, Granule, OutputSize, Question, Start};
 use std::ops::Range;
 
 /// An audit with its capture, which is a part of an image.
@@ -13,7 +13,7 @@ pub struct Asked {
     pub part: Part,
 }
 
-/// An image in which the most tables have room, with a root of 16 frames wherever it is aligned, and some frames more.
+/// An image in which the most tables of 4KB have room, with a root of 16 frames wherever it is aligned, and some frames more.
 pub const LARGE: u64 = (MOST_TABLES as u64 + 64) * FRAME;
 
 /// A table, and every level at which it is listed. The root has one level.
@@ -71,15 +71,16 @@ pub fn pad_grants(lists: &mut Lists, image: &Image, count: usize) {
 struct Sound<'a> {
     random: &'a mut Random,
     image: &'a mut Image,
+    granule: Granule,
     nodes: Vec<Node>,
-    /// Frames of the image that nothing uses, in any order.
-    frames: Vec<u64>,
+    /// Granules of the image that nothing uses, in any order.
+    unused: Vec<u64>,
     granted: Vec<Range<u64>>,
 }
 
 impl Sound<'_> {
     /// An entry of a node that is not in use. After some tries there is none.
-    fn unused(&mut self, node: usize) -> Option<u64> {
+    fn unused_entry(&mut self, node: usize) -> Option<u64> {
         let (address, entries) = (self.nodes[node].address, self.nodes[node].entries);
         (0..4).map(|_| index(self.random, entries)).find(|n| self.image.get(address + 8 * n) & 1 == 0)
     }
@@ -90,14 +91,14 @@ impl Sound<'_> {
 
     /// A table more. An entry of another leads to most: such a one is listed one level down from each level of the other.
     fn add_table(&mut self, several_levels: bool) {
-        let address = self.frames.pop().expect("the image has room for all tables");
+        let address = self.unused.pop().expect("the image has room for all tables");
         let count = self.nodes.len();
         let tried = [count - 1, self.random.below(count as u64) as usize, self.random.below(count as u64) as usize, 0];
         let parent = tried.into_iter().find(|&node| self.nodes[node].levels.iter().all(|&level| level < 3));
         let mut levels = vec![self.random.between(1, 3)];
-        if let Some(parent) = parent.filter(|_| self.random.percent(90)) {
-            if let Some(index) = self.unused(parent) {
-                let word = address | odd_bits(self.random) | 3;
+        if let Some(parent) = parent.filter(|_| self.random.percent(80)) {
+            if let Some(index) = self.unused_entry(parent) {
+                let word = address | ignored_address_bits(self.random, self.granule.log()) | odd_bits(self.random) | 3;
                 self.set(parent, index, word);
                 levels = self.nodes[parent].levels.iter().map(|level| level + 1).collect();
             }
@@ -107,18 +108,18 @@ impl Sound<'_> {
             levels.sort_unstable();
             levels.dedup();
         }
-        self.nodes.push(Node { address, entries: FRAME / 8, levels });
+        self.nodes.push(Node { address, entries: 1 << self.granule.stride(), levels });
     }
 
     fn is_free(&self, range: &Range<u64>) -> bool {
         range.end <= 1 << 48 && !touch(range, &(self.image.base..self.image.base + self.image.length()))
     }
 
-    /// Where leaves of some size and of so many bytes together go: at either end of the image, of a grant or of memory, or anywhere.
-    /// A page may go between tables too. After some tries there is no place.
+    /// Where leaves of some size and of so many bytes together go: at or near an end of the image, of a grant or of memory, or anywhere.
+    /// A granule or less may go between tables too. After some tries there is no place.
     fn place(&mut self, size: u64, total: u64) -> Option<Range<u64>> {
-        if total == FRAME && self.random.percent(25) {
-            return self.frames.pop().map(|frame| frame..frame + FRAME);
+        if total <= self.granule.size() && self.random.percent(25) {
+            return self.unused.pop().map(|start| start..start + total);
         }
         let at = |start: u64| start / size * size..(start / size * size).saturating_add(total);
         for _ in 0..4 {
@@ -133,6 +134,7 @@ impl Sound<'_> {
                 3..=5 => near.end + size - 1,
                 6..=8 => near.start,
                 9 => (1 << 48) - total,
+                10 | 11 => near.end + FRAME,
                 _ => self.random.bits(width),
             });
             if self.is_free(&range) {
@@ -163,13 +165,13 @@ impl Sound<'_> {
     /// Leaves in a row, or an entry that is passed over, in any table.
     fn add_leaves(&mut self) {
         let node = self.random.below(self.nodes.len() as u64) as usize;
-        let index = match self.unused(node) {
+        let index = match self.unused_entry(node) {
             Some(index) => index,
             None => return,
         };
         let levels = &self.nodes[node].levels;
-        // A block where a table is listed at several levels is one at each of them, within the largest.
-        let level = if levels == &[3] { Some(3) } else { levels.iter().copied().find(|level| (1..=2).contains(level)) };
+        // A block where a table is listed at several levels is one at each that has blocks, within the largest.
+        let level = if levels == &[3] { Some(3) } else { levels.iter().copied().find(|&level| self.granule.allows_block(level)) };
         let level = match level.filter(|level| *level < 3 || self.random.percent(75)) {
             Some(level) => level,
             None => return self.set_passed_over(node, index, 1),
@@ -179,15 +181,16 @@ impl Sound<'_> {
             return self.set_passed_over(node, index, kind);
         }
         let wanted = match self.random.below(20) {
-            0 => FRAME / 8,
+            0 => 512,
             1..=4 => self.random.between(2, 6),
             _ => 1,
         };
-        let (size, count) = (1 << shift(level), self.run(node, index, wanted));
+        let low = self.granule.shift(level);
+        let (size, count) = (1 << low, self.run(node, index, wanted));
         if let Some(range) = self.place(size, size * count) {
             for n in 0..count {
                 let kind = if level == 3 { 3 } else { 1 };
-                let word = (range.start + size * n) | ignored_address_bits(self.random, level) | odd_bits(self.random) | kind;
+                let word = (range.start + size * n) | ignored_address_bits(self.random, low) | odd_bits(self.random) | kind;
                 self.set(node, index + n, word);
             }
             self.grant(range);
@@ -215,12 +218,20 @@ impl Sound<'_> {
     }
 }
 
+/// Most have stage 2 on. Those for a large image have the granule that it has room for.
+fn plan(random: &mut Random, large: bool) -> Plan {
+    loop {
+        let plan = Plan::new(random);
+        let has_room = !large || Granule::of_stage2(&plan.question) == Some(Granule::Of4KB);
+        if has_room && (plan.stage2 || random.percent(5)) {
+            return plan;
+        }
+    }
+}
+
 /// Registers that give stage 2 a root in an image, which is cleared. Some have none.
 fn start(random: &mut Random, image: &mut Image) -> (Question, Option<Start>) {
-    let mut plan = Plan::new(random);
-    while !plan.stage2 && random.percent(95) {
-        plan = Plan::new(random);
-    }
+    let plan = plan(random, image.length() == LARGE);
     let mut q = plan.question;
     let output_size = built_for(random).of_ps(&q);
     image.clear(table_base(random, output_size, image.length()));
@@ -253,15 +264,23 @@ pub fn build(random: &mut Random, image: &mut Image) -> Asked {
         Some(start) => start,
         None => return Asked { question, lists: Lists::default(), part: Part::whole(image) },
     };
-    let root = Node { address: start.table, entries: 1 << (start.input_size - shift(start.level)), levels: vec![start.level] };
+    let root = Node { address: start.table, entries: start.entries(), levels: vec![start.level] };
     let root_bytes = root.address..root.address + 8 * root.entries;
-    let frames = (image.base..image.base + image.length()).step_by(FRAME as usize);
-    let mut frames: Vec<u64> = frames.filter(|&frame| !touch(&(frame..frame + FRAME), &root_bytes)).collect();
-    random.shuffle(&mut frames);
+    let granule = start.granule;
+    let granules = (image.base..image.base + image.length()).step_by(granule.size() as usize);
+    let mut unused: Vec<u64> = granules.filter(|&start| !touch(&(start..start + granule.size()), &root_bytes)).collect();
+    random.shuffle(&mut unused);
+    // The first table may be the last before 2^48.
+    if let Some(last) = unused.iter().position(|start| start + granule.size() == 1 << 48).filter(|_| random.percent(40)) {
+        let end = unused.len() - 1;
+        unused.swap(last, end);
+    }
     let large = image.length() == LARGE;
+    // An audit of many large tables would take long.
+    let most = if granule == Granule::Of64KB { 6 } else { 10 };
     let (tables, leaves, grants) =
-        if large { (MOST_TABLES as u64, 150, 20) } else { (random.below(10), random.below(16), random.below(3)) };
-    let mut sound = Sound { random, image, nodes: vec![root], frames, granted: Vec::new() };
+        if large { (MOST_TABLES as u64, 150, 20) } else { (random.below(most), random.below(16), random.below(3)) };
+    let mut sound = Sound { random, image, granule, nodes: vec![root], unused, granted: Vec::new() };
     for _ in 0..tables {
         sound.add_table(!large);
     }
@@ -275,7 +294,7 @@ pub fn build(random: &mut Random, image: &mut Image) -> Asked {
     if large {
         pad_grants(&mut lists, image, MOST_GRANTS);
     }
-    let listed = lists.tables.iter().map(|&table| table..table + FRAME);
+    let listed = lists.tables.iter().map(|&table| table..table + granule.size());
     let part = part(random, image, listed.chain(std::iter::once(root_bytes)));
     Asked { question, part, lists }
 }

@@ -1,10 +1,11 @@
 //! Compares the proved batch with the independent walk, address by address.
+use crate::counts::Counts;
 use crate::generate::Questions;
+use crate::geometry::Granules;
 use crate::proved::{self, BatchWords, Words};
 use crate::random::Random;
 use crate::walk::{self, Capture, Question};
 use humpelkaas::Ledger;
-use std::collections::BTreeMap;
 
 /// The longest list that is accepted.
 const MOST: usize = 4096;
@@ -77,36 +78,45 @@ fn line(ledger: &Ledger) -> String {
     format!("asked {asked} translated {translated} faulted {faulted} absent {absent} unsettled {unsettled}")
 }
 
-/// How often each sort of batch was met.
-struct Met(BTreeMap<String, u64>);
+const ANSWER: &str = "batches by answer";
+const LENGTH: &str = "batches by length";
+const ADDRESSES: &str = "addresses by sort";
 
-impl Met {
-    fn new() -> Met {
-        let mut all = BTreeMap::new();
-        for number in [0, 11, 12, 13, 14] {
-            all.insert(format!("answer {number:2}"), 0);
-        }
-        for length in LENGTHS {
-            all.insert(format!("length {length:4}"), 0);
-        }
-        for sort in ["translated", "faulted", "absent", "unsettled"] {
-            all.insert(format!("addresses {sort}"), 0);
-        }
-        Met(all)
+const TRANSLATED: &str = "addresses translated, by granules";
+
+/// The sorts of batches, and of addresses in them.
+struct Classes(Counts);
+
+impl Classes {
+    /// All that can exist, none of them met.
+    fn new() -> Classes {
+        let mut all = Counts::default();
+        all.add(ANSWER, [0, 11, 12, 13, 14]);
+        all.add(LENGTH, LENGTHS.map(|length| format!("{length:4}")));
+        all.add(ADDRESSES, ["translated", "faulted", "absent", "unsettled"]);
+        all.add(TRANSLATED, Granules::all());
+        Classes(all)
     }
 
-    fn add(&mut self, name: String, count: u64) {
-        if let Some(met) = self.0.get_mut(&name) {
-            *met += count;
+    fn meet(&mut self, q: &Question, addresses: &[u64], told: &Told) {
+        self.0.count(ANSWER, told.words.number);
+        if LENGTHS.contains(&addresses.len()) {
+            self.0.count(LENGTH, format!("{:4}", addresses.len()));
         }
-    }
-
-    fn meet(&mut self, length: usize, words: &BatchWords) {
-        self.add(format!("answer {:2}", words.number), 1);
-        self.add(format!("length {length:4}"), 1);
-        let Ledger { asked: _, translated, faulted, absent, unsettled } = words.ledger;
-        for (sort, count) in [("translated", translated), ("faulted", faulted), ("absent", absent), ("unsettled", unsettled)] {
-            self.add(format!("addresses {sort}"), count);
+        if told.words.number != 0 {
+            return;
+        }
+        for (&address, number) in addresses.iter().zip(&told.numbers) {
+            let sort = match number {
+                0 => "translated",
+                1..=5 => "faulted",
+                6 => "absent",
+                _ => "unsettled",
+            };
+            self.0.count(ADDRESSES, sort);
+            if let Some(granules) = Granules::new(&Question { address, ..*q }).filter(|_| *number == 0) {
+                self.0.count(TRANSLATED, granules);
+            }
         }
     }
 }
@@ -115,7 +125,7 @@ impl Met {
 pub fn compare(count: u64, seed: u64) -> (u64, Vec<String>) {
     let mut random = Random::new(seed ^ 0xba7c4);
     let mut questions = Questions::new(seed);
-    let mut met = Met::new();
+    let mut classes = Classes::new();
     let mut differ = 0;
     for n in 0..count {
         let (image, asked) = questions.next();
@@ -129,16 +139,14 @@ pub fn compare(count: u64, seed: u64) -> (u64, Vec<String>) {
         let wanted = expected(q, capture, &list, outputs.clone(), numbers.clone());
         let mut told = Told { words: BatchWords::default(), outputs, numbers };
         told.words = proved::batch(q, capture, &list, &mut told.outputs, &mut told.numbers);
-        met.meet(list.len(), &wanted.words);
-        if told != wanted || told.words.ledger.to_string() != line(&wanted.words.ledger) || image.bytes != image.copy {
+        classes.meet(q, &list, &wanted);
+        if told != wanted || told.words.ledger.to_string() != line(&wanted.words.ledger) || !image.kept() {
             differ += 1;
             let first = told.numbers.iter().zip(&wanted.numbers).zip(told.outputs.iter().zip(&wanted.outputs));
             let at = first.take_while(|((a, b), (c, d))| a == b && c == d).count();
             println!("batch of {}: first differs at {at}: {:x?} for {:x?}\n  {q:x?}", list.len(), told.words, wanted.words);
         }
     }
-    for (name, met) in &met.0 {
-        println!("{name}: {met}");
-    }
-    (differ, met.0.into_iter().filter(|(_, met)| *met == 0).map(|(name, _)| name).collect())
+    classes.0.print();
+    (differ, classes.0.missed())
 }

@@ -1,8 +1,11 @@
 //! Random questions that reach every class of answer: registers that pass the settings, tables to walk, then some damage.
 //! Purely random registers and memory would nearly always be refused or fault before the first read.
 use crate::random::Random;
-use crate::tables::{passing_leaf_bits, stage1_leaf_bits, stage2_leaf_bits, table_bits, Builder, Image, Part, LENGTH};
-use crate::walk::{self, bits, Answer, Capture, OutputSize, Question, SIZES};
+use crate::tables::{passing_leaf_bits, stage1_leaf_bits, stage2_leaf_bits, table_bits, Builder, Image, Part, LARGEST_ROOT, LENGTH};
+use crate::walk::{self, bits, Answer, Capture, Granule, Half, OutputSize, Question, SIZES};
+
+/// The length of an image that is filled.
+const FILLED: u64 = 0x40000;
 
 /// A question with its capture, which is a part of an image, and the length of its log.
 pub struct Asked {
@@ -45,8 +48,8 @@ fn mair_el1(random: &mut Random) -> u64 {
 fn output_code(random: &mut Random, pamax: u64) -> u64 {
     let any = random.below(6);
     match random.below(10) {
-        0..=3 => SIZES.iter().position(|&size| size == pamax).map_or(any, |code| code as u64),
-        4..=6 => 5,
+        0 | 1 => SIZES.iter().position(|&size| size == pamax).map_or(any, |code| code as u64),
+        2..=7 => 5,
         _ => any,
     }
 }
@@ -60,48 +63,112 @@ pub fn built_for(random: &mut Random) -> OutputSize {
     }
 }
 
+/// The code of any granule in a TG0, now and then the reserved one.
+fn tg0(random: &mut Random) -> u64 {
+    if random.percent(1) {
+        3
+    } else {
+        random.below(3)
+    }
+}
+
+/// The same in TG1.
+fn tg1(random: &mut Random) -> u64 {
+    if random.percent(1) {
+        0
+    } else {
+        random.between(1, 3)
+    }
+}
+
+/// The listed input sizes, up to the largest, with which a walk may start at a level if the root's index may have so many bits.
+fn input_sizes(granule: Granule, start: u64, most_bits: u64, largest: u64) -> Option<(u64, u64)> {
+    let low = (granule.shift(start) + 1).max(25);
+    let high = (granule.shift(start) + most_bits).min(largest);
+    (low <= high).then_some((low, high))
+}
+
+/// An input size on either side of the contiguous rule's limit.
+fn contiguous_size(random: &mut Random, granule: Granule) -> u64 {
+    granule.contiguous_rule().1 - random.pick(&[0, 0, 0, 0, 0, 1, 1, 1, 2, 3])
+}
+
+/// Any listed input size of stage 1, with each start level as often.
+fn stage1_size(random: &mut Random, granule: Granule, deep: bool) -> u64 {
+    if !deep && random.percent(15) {
+        return contiguous_size(random, granule);
+    }
+    let starts: Vec<_> = (0..=3).filter_map(|start| input_sizes(granule, start, granule.stride(), 48)).collect();
+    let (low, high) = if deep && random.percent(70) { starts[0] } else { random.pick(&starts) };
+    random.between(low, high)
+}
+
 /// Both halves with a listed size; a half that is off may have any size and granule.
 fn tcr_el1(random: &mut Random, pamax: u64, deep: bool) -> u64 {
-    let mut tcr = 2 << 30 | output_code(random, pamax) << 32 | random.bits(2) << 37;
+    let mut tcr = tg0(random) << 14 | tg1(random) << 30 | output_code(random, pamax) << 32 | random.bits(2) << 37;
     tcr |= unnamed(random, 0x3f | 1 << 7 | 3 << 14 | 0x3f << 16 | 1 << 23 | 3 << 30 | 7 << 32 | 3 << 37);
-    for low in [0, 16] {
+    for upper in [false, true] {
+        let low = if upper { 16 } else { 0 };
         if random.percent(6) {
             tcr |= 1 << (low + 7);
             tcr ^= random.word() & 0xc03f << low;
-        } else if deep && random.percent(70) {
-            tcr |= random.between(16, 24) << low;
-        } else if random.percent(15) {
-            // Sizes at which a contiguous block of level 1 is unsettled.
-            tcr |= random.between(31, 33) << low;
         } else {
-            tcr |= random.between(16, 39) << low;
+            let granule = Half::new(tcr, upper).granule.unwrap_or(Granule::Of4KB);
+            tcr |= (64 - stage1_size(random, granule, deep)) << low;
         }
     }
     tcr
 }
 
-/// A start level that PAMax allows with a size that fits it, concatenated roots included; at times any pair.
-fn vtcr_el2(random: &mut Random, pamax: u64, deep: bool) -> u64 {
-    let rest = output_code(random, pamax) << 16 | unnamed(random, 0x7c0ff);
-    if random.percent(4) {
-        return random.between(16, 39) | random.below(4) << 6 | rest;
-    }
-    let start = if deep && random.percent(70) {
-        0
-    } else if pamax > 42 {
-        random.below(3)
-    } else {
-        random.between(1, 2)
+/// An SL0 and an input size of stage 2 that pass the size check, concatenated roots included; most are a start that PAMax allows.
+fn stage2_start(random: &mut Random, granule: Granule, pamax: u64, deep: bool) -> (u64, u64) {
+    let forbidden_too = random.percent(15);
+    let sizes = |sl0: u64| {
+        let level = granule.stage2_start(sl0);
+        let start = u64::try_from(level).ok().filter(|_| forbidden_too || granule.allows_stage2_start(level, pamax))?;
+        Some((sl0, input_sizes(granule, start, granule.stride() + 4, pamax)?))
     };
-    let shift = walk::shift(start);
-    let (low, high) = ((shift + 1).max(25), (shift + 13).min(pamax));
+    let starts: Vec<_> = (0..4).filter_map(sizes).collect();
+    let (sl0, (low, high)) = if deep && random.percent(70) { starts[starts.len() - 1] } else { random.pick(&starts) };
+    let level = granule.stage2_start(sl0) as u64;
+    let single = granule.shift(level) + granule.stride();
     let size = match random.below(100) {
         0..=4 => low,
-        5..=9 => high,
-        10..=24 if start == 1 => random.between(31, 33.min(high)),
+        5..=14 => high,
+        15..=34 if level == granule.contiguous_rule().0 => contiguous_size(random, granule).min(high),
+        35..=49 if single < high => random.between(low.max(single + 1), high),
         _ => random.between(low, high),
     };
-    (64 - size) | (2 - start) << 6 | rest
+    (sl0, size)
+}
+
+/// Any SL0, and a size of any kind or one just outside of the size check.
+fn any_start(random: &mut Random, granule: Granule) -> (u64, u64) {
+    let sl0 = random.below(4);
+    let shift = granule.shift(granule.stage2_start(sl0).max(0) as u64);
+    let size = match random.below(4) {
+        0 => shift.clamp(25, 48),
+        1 => (shift + granule.stride() + 5).clamp(25, 48),
+        _ => random.between(25, 48),
+    };
+    (sl0, size)
+}
+
+/// Most have a start.
+fn vtcr_el2(random: &mut Random, pamax: u64, deep: bool) -> u64 {
+    let tg0 = tg0(random);
+    let rest = tg0 << 14 | output_code(random, pamax) << 16 | unnamed(random, 0x7c0ff);
+    let granule = Granule::of_tg0(tg0).unwrap_or(Granule::Of4KB);
+    let (sl0, size) = if random.percent(6) { any_start(random, granule) } else { stage2_start(random, granule, pamax, deep) };
+    (64 - size) | sl0 << 6 | rest
+}
+
+/// An address in a half of stage 1 that passes the tests before the walk.
+struct Stage1Input {
+    address: u64,
+    upper: bool,
+    granule: Granule,
+    size: u64,
 }
 
 /// Registers that pass the settings, with either stage on or off.
@@ -109,19 +176,20 @@ pub struct Plan {
     pub question: Question,
     stage1: bool,
     pub stage2: bool,
-    /// Most starts at level 0 and all leaves at level 3, for the longest walks.
+    /// Most starts at the first level there is and all leaves at level 3, for the longest walks.
     pub deep: bool,
 }
 
 impl Plan {
     pub fn new(random: &mut Random) -> Plan {
-        let deep = random.percent(20);
-        let pamax = if deep { random.pick(&[44, 48]) } else { random.pick(&SIZES) };
+        let deep = random.percent(12);
+        // Some starts are for these alone.
+        let pamax = if deep || random.percent(15) { random.pick(&[44, 48]) } else { random.pick(&SIZES) };
         let (m, vm, dc) = match random.below(100) {
-            0..=54 => (1, 1, 0),
-            55..=70 => (1, 0, 0),
-            71..=84 => (0, 1, 0),
-            85..=93 => (random.one(60), random.one(50), 1),
+            0..=67 => (1, 1, 0),
+            68..=79 => (1, 0, 0),
+            80..=89 => (0, 1, 0),
+            90..=96 => (random.one(60), random.one(50), 1),
             _ => (0, 0, 0),
         };
         let (stage1, stage2) = (m == 1 && dc == 0, vm == 1 || dc == 1);
@@ -141,12 +209,12 @@ impl Plan {
         Plan { question: q, stage1, stage2, deep }
     }
 
-    /// An address in either half of stage 1 that passes the tests before the walk, the half, and its input size.
-    fn stage1_input(&self, random: &mut Random) -> (u64, bool, u64) {
+    fn stage1_input(&self, random: &mut Random) -> Stage1Input {
         let upper = random.percent(45);
-        let low = if upper { 16 } else { 0 };
-        // A half that is off may have a size that is not listed; any other does then.
-        let size = Some(64 - bits(self.question.tcr_el1, low + 5, low)).filter(|size| (25..=48).contains(size)).unwrap_or(39);
+        let half = Half::new(self.question.tcr_el1, upper);
+        // A half that is off may have a size that is not listed, or no granule; any other does then.
+        let size = Some(half.input_size()).filter(|size| (25..=48).contains(size)).unwrap_or(39);
+        let granule = half.granule.unwrap_or(Granule::Of4KB);
         let mut address = if random.percent(5) { random.pick(&[0, u64::MAX]) >> (64 - size) } else { random.bits(size) };
         if upper {
             address |= u64::MAX << size;
@@ -155,19 +223,21 @@ impl Plan {
         if ignores_top && random.percent(70) {
             address = bits(address, 55, 0) | random.bits(8) << 56;
         }
-        (address, upper, size)
+        Stage1Input { address, upper, granule, size }
     }
 }
 
-/// A base for tables of a given output size: few lie where an output size faults, and no end passes 2^48.
+/// A base for tables of a given output size: few lie where an output size faults, and no end passes 2^48. The largest root is aligned
+/// there.
 pub fn table_base(random: &mut Random, output_size: u64, length: u64) -> u64 {
-    let width = random.between(19, output_size);
+    let length = (length + LARGEST_ROOT - 1) / LARGEST_ROOT * LARGEST_ROOT;
+    let width = random.between(22, output_size);
     let base = match random.below(10) {
         0..=3 => 0x4000_0000,
         4 => 0,
         5 => (1 << output_size) - length,
         6 => (1 << 48) - length,
-        _ => bits(random.bits(width), 47, 16) << 16,
+        _ => random.bits(width) / LARGEST_ROOT * LARGEST_ROOT,
     };
     if base + length > 1 << output_size && random.percent(90) {
         return 0x4000_0000;
@@ -186,7 +256,7 @@ fn untranslated(random: &mut Random, width: u64) -> u64 {
 
 /// Builds the tables of a plan for an address, and sets the base registers and the address.
 fn build(random: &mut Random, image: &mut Image, plan: &mut Plan) {
-    let (address, upper, size) = plan.stage1_input(random);
+    let input = plan.stage1_input(random);
     let q = &mut plan.question;
     let output = built_for(random);
     let output_size = if plan.stage2 { output.of_ps(q) } else { output.of_ips(q) };
@@ -200,9 +270,9 @@ fn build(random: &mut Random, image: &mut Image, plan: &mut Plan) {
         q.vttbr_el2 = builder.stage2_root(q);
     }
     let output = if plan.stage1 {
-        q.address = address & aligned;
-        let (base_register, output) = builder.stage1(q.address, size);
-        *(if upper { &mut q.ttbr1_el1 } else { &mut q.ttbr0_el1 }) = base_register;
+        q.address = input.address & aligned;
+        let (base_register, output) = builder.stage1(q.address, input.granule, input.size);
+        *(if input.upper { &mut q.ttbr1_el1 } else { &mut q.ttbr0_el1 }) = base_register;
         output
     } else {
         let width = builder.input_width(q);
@@ -223,8 +293,8 @@ fn fill(random: &mut Random, image: &mut Image) {
     image.clear(base);
     let tables = random.between(45, 80);
     let harm = random.below(5);
-    for address in (base..base + LENGTH).step_by(8) {
-        let page = base + random.below(LENGTH / 4096) * 4096;
+    for address in (base..base + FILLED).step_by(8) {
+        let page = base + random.below(FILLED / 4096) * 4096;
         let mut word = if random.percent(tables) {
             page | 3 | table_bits(random) | bits(passing_leaf_bits(random), 11, 0)
         } else {
@@ -240,10 +310,10 @@ fn fill(random: &mut Random, image: &mut Image) {
 
 /// Sets the base registers to roots in a filled image, and any address that gets past the first tests.
 fn root_anywhere(random: &mut Random, image: &Image, plan: &mut Plan) {
-    let (stage1_address, _, _) = plan.stage1_input(random);
+    let stage1_address = plan.stage1_input(random).address;
     let q = &mut plan.question;
     for register in [&mut q.ttbr0_el1, &mut q.ttbr1_el1, &mut q.vttbr_el2] {
-        *register = (image.base + random.below(LENGTH)) | random.bits(16) << 48;
+        *register = (image.base + random.below(FILLED)) | random.bits(16) << 48;
     }
     q.address = if plan.stage1 { stage1_address } else { random.bits(q.pamax) };
     if random.percent(80) {
@@ -255,11 +325,14 @@ fn flip(random: &mut Random, word: &mut u64) {
     *word ^= 1 << random.below(64);
 }
 
-/// The address of a descriptor that the walk reads, if it reads any: damage elsewhere would seldom be met.
+/// The address of a descriptor that the walk reads, if it reads any: damage elsewhere would seldom be met. The last
+/// is taken more often, for it would else seldom be met in a long walk.
 fn read_address(random: &mut Random, image: &Image, q: &Question) -> Option<u64> {
     let mut log = [0; 24];
     match walk::ask(q, Capture { base: image.base, bytes: &image.bytes }, &mut log) {
-        Answer::Translated { reads, .. } | Answer::Stopped { reads, .. } if reads > 0 => Some(random.pick(&log[..reads])),
+        Answer::Translated { reads, .. } | Answer::Stopped { reads, .. } if reads > 0 => {
+            Some(if random.percent(30) { log[reads - 1] } else { random.pick(&log[..reads]) })
+        }
         _ => None,
     }
 }
@@ -270,7 +343,7 @@ fn damage_descriptor(random: &mut Random, image: &mut Image, q: &Question) {
         if random.percent(75) { read_address(random, image, q) } else { (!image.written.is_empty()).then(|| random.pick(&image.written)) };
     if let Some(at) = at {
         let mut word = image.get(at);
-        match random.below(11) {
+        match random.below(13) {
             0 => word = random.word(),
             1 => word = word & !3 | random.bits(2),
             2 => word ^= 1 << 10,
@@ -278,7 +351,7 @@ fn damage_descriptor(random: &mut Random, image: &mut Image, q: &Question) {
             4 => word ^= random.bits(3) << 6,
             5 => word ^= random.bits(8) << 2,
             6 => word ^= 1 << random.between(52, 62),
-            7 => word |= 1 << random.between(q.pamax.min(47), 47),
+            7..=9 => word |= 1 << random.between(q.pamax.min(47), 47),
             _ => flip(random, &mut word),
         }
         image.set(at, word);
@@ -347,8 +420,8 @@ fn damage(random: &mut Random, image: &mut Image, question: Question) -> Asked {
             67..=74 => damage_number(random, &mut asked.question),
             75..=79 => flip(random, &mut asked.question.address),
             80..=82 => asked.question.address = random.word(),
-            83..=86 => asked.log_words = random.below(40) as usize,
-            87..=95 => cut(random, image, &mut asked),
+            83 | 84 => asked.log_words = random.below(40) as usize,
+            85..=96 => cut(random, image, &mut asked),
             _ => asked.part.move_away(random),
         }
     }
@@ -370,11 +443,11 @@ impl Questions {
     pub fn new(seed: u64) -> Questions {
         let mut random = Random::new(seed);
         let plan = Plan::new(&mut random);
-        Questions { random, built: Image::new(LENGTH), filled: Image::new(LENGTH), plan, of_built: 0, of_filled: 0 }
+        Questions { random, built: Image::new(LENGTH), filled: Image::new(FILLED), plan, of_built: 0, of_filled: 0 }
     }
 
     /// The next question, and the image that its capture is a part of.
-    pub fn next(&mut self) -> (&Image, Asked) {
+    pub fn next(&mut self) -> (&mut Image, Asked) {
         if self.random.percent(40) {
             self.next_of_filled()
         } else {
@@ -382,7 +455,7 @@ impl Questions {
         }
     }
 
-    fn next_of_filled(&mut self) -> (&Image, Asked) {
+    fn next_of_filled(&mut self) -> (&mut Image, Asked) {
         if self.of_filled == 0 {
             fill(&mut self.random, &mut self.filled);
             self.of_filled = 4096;
@@ -391,20 +464,20 @@ impl Questions {
         let mut plan = Plan::new(&mut self.random);
         root_anywhere(&mut self.random, &self.filled, &mut plan);
         let asked = damage(&mut self.random, &mut self.filled, plan.question);
-        (&self.filled, asked)
+        (&mut self.filled, asked)
     }
 
     /// Tables once built are asked of by several accesses, of which each adds to the damage.
-    fn next_of_built(&mut self) -> (&Image, Asked) {
+    fn next_of_built(&mut self) -> (&mut Image, Asked) {
         if self.of_built == 0 {
             self.plan = Plan::new(&mut self.random);
             build(&mut self.random, &mut self.built, &mut self.plan);
-            self.of_built = 4;
+            self.of_built = 2;
         } else {
             set_access(&mut self.random, &mut self.plan.question);
         }
         self.of_built -= 1;
         let asked = damage(&mut self.random, &mut self.built, self.plan.question);
-        (&self.built, asked)
+        (&mut self.built, asked)
     }
 }

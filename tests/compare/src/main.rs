@@ -1,18 +1,21 @@
 //! Compares the proved functions with an independent walk and audit, and both with answers from outside.
 mod audit;
 mod audit_build;
+mod audit_classes;
 mod audit_damage;
 mod audits;
 mod batches;
 mod classes;
+mod counts;
 mod generate;
+mod geometry;
 mod proved;
 mod random;
 mod tables;
 mod vectors;
 mod walk;
 
-use classes::Classes;
+use classes::{Classes, Told};
 use generate::Questions;
 use proved::Words;
 use std::process::ExitCode;
@@ -26,7 +29,7 @@ compare random COUNT SEED   compare the proved function with the walk on COUNT r
 compare batches COUNT SEED  compare the proved batch with the walk on COUNT random batches
 compare audits COUNT SEED   compare the proved audit with the independent one on COUNT random audits
 The last line is 'N compared, M differ'. Exit status 0 exactly when M is 0, vectors were read, and no class was missed by
-200,000 random questions, 2,000 random batches or 20,000 random audits or more; 2 for bad arguments.";
+200,000 random questions, 2,000 random batches or 40,000 random audits or more; 2 for bad arguments.";
 
 /// From this many random questions on, a class that is missed is an error.
 const ALL_CLASSES: u64 = 200_000;
@@ -35,7 +38,7 @@ const ALL_CLASSES: u64 = 200_000;
 const ALL_BATCHES: u64 = 2_000;
 
 /// From this many random audits on, a class that is missed is an error.
-const ALL_AUDITS: u64 = 20_000;
+const ALL_AUDITS: u64 = 40_000;
 
 /// Disagreements printed in full: after a gross error there would be many thousands.
 const PRINTED: u64 = 20;
@@ -214,14 +217,14 @@ fn compare_random(count: u64, seed: u64) -> ExitCode {
         let q = &asked.question;
         let capture = asked.part.capture(image);
         let both = Compared::new(q, capture, asked.log_words);
-        classes.meet(q, capture.base, capture.bytes.len(), &both.walk.words);
+        classes.meet(&Told { q, capture, words: &both.walk.words, reads: both.walk.reads() });
         if lowering_decides(q, capture, asked.log_words, &both.walk) {
             classes.meet_lowered(&both.walk.words);
         }
-        if let Some(why) = both.difference(image.bytes == image.copy) {
+        if let Some(why) = both.difference(image.kept()) {
             differ += 1;
             if differ <= PRINTED {
-                print_difference(q, capture, asked.log_words, &both, why);
+                print_difference(q, asked.part.capture(image), asked.log_words, &both, why);
             }
         }
         if reported.elapsed() > Duration::from_secs(10) {

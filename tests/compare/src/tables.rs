@@ -1,11 +1,17 @@
 //! The memory that captures are taken from, and translation tables built in it, so that walks have descriptors to read.
 use crate::generate::built_for;
 use crate::random::Random;
-use crate::walk::{bits, shift, Capture, Question};
+use crate::walk::{bits, Capture, Granule, Question};
 use std::ops::Range;
 
-/// The length of an image for questions.
-pub const LENGTH: u64 = 0x40000;
+/// The largest root: 16 tables of 64KB. Images begin at a multiple of it.
+pub const LARGEST_ROOT: u64 = 0x10_0000;
+
+/// The length of an image for questions and audits, in which a largest root leaves room for other tables.
+pub const LENGTH: u64 = 2 * LARGEST_ROOT;
+
+/// An image is compared as a whole each time that so many calls have seen it.
+const WATCHED: u64 = 64;
 
 pub struct Image {
     pub base: u64,
@@ -15,11 +21,14 @@ pub struct Image {
     /// The addresses of all words that may differ from zero.
     pub written: Vec<u64>,
     used: u64,
+    calls: u64,
+    kept: bool,
 }
 
 impl Image {
     pub fn new(length: u64) -> Image {
-        Image { base: 0, bytes: vec![0; length as usize], copy: vec![0; length as usize], written: Vec::new(), used: 0 }
+        let bytes = vec![0; length as usize];
+        Image { base: 0, copy: bytes.clone(), bytes, written: Vec::new(), used: 0, calls: 0, kept: true }
     }
 
     pub fn length(&self) -> u64 {
@@ -36,23 +45,37 @@ impl Image {
         self.offset(address).map_or(0, |at| u64::from_le_bytes(self.bytes[at..at + 8].try_into().unwrap()))
     }
 
+    /// Overwrites a word, and sees before whether a call did.
+    fn put(&mut self, at: usize, word: u64) {
+        self.kept &= self.bytes[at..at + 8] == self.copy[at..at + 8];
+        self.bytes[at..at + 8].copy_from_slice(&word.to_le_bytes());
+        self.copy[at..at + 8].copy_from_slice(&word.to_le_bytes());
+    }
+
     /// Writes a word; one outside is dropped.
     pub fn set(&mut self, address: u64, word: u64) {
         if let Some(at) = self.offset(address) {
-            self.bytes[at..at + 8].copy_from_slice(&word.to_le_bytes());
-            self.copy[at..at + 8].copy_from_slice(&word.to_le_bytes());
+            self.put(at, word);
             self.written.push(address);
         }
     }
 
     pub fn clear(&mut self, base: u64) {
         for address in std::mem::take(&mut self.written) {
-            let at = (address - self.base) as usize;
-            self.bytes[at..at + 8].fill(0);
-            self.copy[at..at + 8].fill(0);
+            self.put((address - self.base) as usize, 0);
         }
         self.used = 0;
         self.base = base;
+    }
+
+    /// Whether no call has written the image. To compare all bytes for each call would take long: it is done for one of many, and a word
+    /// that is set is compared before, so that no write is lost.
+    pub fn kept(&mut self) -> bool {
+        self.calls += 1;
+        if self.calls % WATCHED == 0 {
+            self.kept &= self.bytes == self.copy;
+        }
+        self.kept
     }
 
     /// Room for a table of a power of two bytes, aligned to them. When all room is used, tables begin to overlap.
@@ -126,7 +149,7 @@ pub fn stage1_leaf_bits(random: &mut Random) -> u64 {
     let ap = if random.percent(40) { 1 } else { random.below(4) };
     let ignored = if random.percent(25) { random.word() & (0x1ff << 55 | 0xf << 48 | 1 << 11 | 1 << 5) } else { 0 };
     let low = random.below(8) << 2 | ap << 6 | sh << 8 | random.one(97) << 10;
-    low | random.one(10) << 52 | random.one(20) << 53 | random.one(20) << 54 | ignored
+    low | random.one(40) << 52 | random.one(20) << 53 | random.one(20) << 54 | ignored
 }
 
 /// Bits of a stage 2 leaf beside type and address, for the access itself or for stage 1's descriptors. Those have to let most
@@ -144,7 +167,7 @@ pub fn stage2_leaf_bits(random: &mut Random, on_walk: bool) -> u64 {
     let sh = if settled { random.pick(&[0, 2, 3]) } else { random.below(4) };
     let ap = if random.percent(permitted) { 3 } else { random.below(4) };
     let ignored = if random.percent(25) { random.word() & (0x1ff << 55 | 1 << 53 | 0xf << 48 | 1 << 11) } else { 0 };
-    memory << 2 | ap << 6 | sh << 8 | random.one(98) << 10 | random.one(10) << 52 | random.one(12) << 54 | ignored
+    memory << 2 | ap << 6 | sh << 8 | random.one(98) << 10 | random.one(40) << 52 | random.one(12) << 54 | ignored
 }
 
 /// A stage 2 leaf that lets every on-walk read pass.
@@ -161,10 +184,10 @@ fn leaf_type(level: u64) -> u64 {
     }
 }
 
-/// The address bits of a block below its size are ignored: now and then they are not 0.
-pub fn ignored_address_bits(random: &mut Random, level: u64) -> u64 {
-    if level < 3 && random.percent(10) {
-        random.bits(shift(level) - 12) << 12
+/// The address bits of a descriptor below its block, page or table are ignored: now and then they are not 0.
+pub fn ignored_address_bits(random: &mut Random, low: u64) -> u64 {
+    if random.percent(10) {
+        random.bits(low - 12) << 12
     } else {
         0
     }
@@ -177,17 +200,32 @@ fn base_register(random: &mut Random, root: u64, size: u64) -> u64 {
 }
 
 /// The size in bytes of a root table.
-fn root_size(input_size: u64, start: u64) -> u64 {
-    1 << (3 + input_size - shift(start))
+fn root_size(granule: Granule, input_size: u64, start: u64) -> u64 {
+    1 << (3 + input_size - granule.shift(start))
 }
 
 /// The start of stage 2, once its registers are known to give one.
 #[derive(Clone, Copy)]
 struct Stage2 {
+    granule: Granule,
     input_size: u64,
     output_size: u64,
     start: u64,
     root: u64,
+}
+
+/// The granule and the start level of stage 2, if it passes the size check. PAMax is not asked: where it forbids the start, tables are
+/// there all the same, so that it alone decides.
+fn stage2_start(q: &Question, input_size: u64) -> Option<(Granule, u64)> {
+    let granule = Granule::of_stage2(q)?;
+    let start = u64::try_from(granule.stage2_start(bits(q.vtcr_el2, 7, 6))).ok()?;
+    let index_bits = input_size.checked_sub(granule.shift(start))?;
+    (1..=granule.stride() + 4).contains(&index_bits).then_some((granule, start))
+}
+
+/// The table that a table descriptor leads to.
+fn next_table(descriptor: u64, granule: Granule) -> u64 {
+    bits(descriptor, 47, granule.log()) << granule.log()
 }
 
 /// Builds the tables of one question.
@@ -195,6 +233,7 @@ pub struct Builder<'a> {
     pub random: &'a mut Random,
     image: &'a mut Image,
     stage2: Option<Stage2>,
+    pamax: u64,
     /// The output size that stage 1 is built for.
     ipa_size: u64,
     /// All leaves at level 3, for long walks.
@@ -207,43 +246,50 @@ impl<'a> Builder<'a> {
     pub fn new(random: &'a mut Random, image: &'a mut Image, q: &Question, deep: bool) -> Builder<'a> {
         let passing = random.percent(60);
         let ipa_size = built_for(random).of_ips(q);
-        Builder { random, image, stage2: None, ipa_size, deep, passing }
+        Builder { random, image, stage2: None, pamax: q.pamax, ipa_size, deep, passing }
     }
 
-    /// Makes room for stage 2's root, and gives VTTBR_EL2. If the registers have no usable start, nothing can be built.
+    /// Makes room for stage 2's root, and gives VTTBR_EL2. If the registers have no start for which tables could be built, none are.
     pub fn stage2_root(&mut self, q: &Question) -> u64 {
         let input_size = 64 - bits(q.vtcr_el2, 5, 0);
-        let usable = 2u64.checked_sub(bits(q.vtcr_el2, 7, 6)).filter(|&start| (1..=13).contains(&input_size.saturating_sub(shift(start))));
-        if let Some(start) = usable {
-            let size = root_size(input_size, start);
+        if let Some((granule, start)) = stage2_start(q, input_size) {
+            let size = root_size(granule, input_size, start);
             let root = self.image.room(self.random, size);
             let output_size = built_for(self.random).of_ps(q);
-            self.stage2 = Some(Stage2 { input_size, output_size, start, root });
+            self.stage2 = Some(Stage2 { granule, input_size, output_size, start, root });
             return base_register(self.random, root, size);
         }
         self.random.word()
     }
 
+    /// A level for a leaf: any that the granule has from the start on, or 3.
+    fn leaf_level(&mut self, granule: Granule, start: u64) -> u64 {
+        let first = if granule.allows_block(1) { 1 } else { 2 };
+        let level = if self.deep { 3 } else { self.random.pick(&[1, 1, 1, 2, 2, 3, 3, 3]) };
+        level.max(first).max(start)
+    }
+
     /// Maps an IPA to a physical address by a leaf of this level, unless the tables map it already. Gives the address that they map
     /// it to.
     fn map_ipa(&mut self, stage2: Stage2, ipa: u64, address: u64, leaf: u64, on_walk: bool) -> u64 {
+        let granule = stage2.granule;
         let (mut table, mut high) = (stage2.root, stage2.input_size - 1);
         for level in stage2.start..=3 {
-            let low = shift(level);
+            let low = granule.shift(level);
             let at = table + 8 * bits(ipa, high, low);
             let old = self.image.get(at);
             if old & 3 == 3 && level < 3 {
-                table = bits(old, 47, 12) << 12;
+                table = next_table(old, granule);
             } else if old & 1 == 1 {
                 return bits(old, 47, low) << low | bits(ipa, low - 1, 0);
             } else if level < leaf {
-                table = self.image.room(self.random, 4096);
-                self.image.set(at, table | 3 | table_bits(self.random));
+                table = self.image.room(self.random, granule.size());
+                self.set_table(at, table, granule);
             } else {
                 let block = bits(address, 47, low) << low;
                 let leaf_bits =
                     if on_walk && self.passing { passing_leaf_bits(self.random) } else { stage2_leaf_bits(self.random, on_walk) };
-                self.image.set(at, block | ignored_address_bits(self.random, level) | leaf_bits | leaf_type(level));
+                self.image.set(at, block | ignored_address_bits(self.random, low) | leaf_bits | leaf_type(level));
                 return block | bits(ipa, low - 1, 0);
             }
             high = low - 1;
@@ -251,21 +297,29 @@ impl<'a> Builder<'a> {
         unreachable!("no entry of level 3 leads to a table")
     }
 
-    /// Room for a table of stage 1: the address by which stage 1 knows it, which is an IPA that stage 2 maps to it if that is on.
-    fn stage1_table(&mut self, size: u64) -> u64 {
+    /// Writes a table descriptor. Now and then it has an address past PAMax.
+    fn set_table(&mut self, at: u64, table: u64, granule: Granule) {
+        let past = if self.pamax < 48 && self.random.percent(5) { 1 << self.random.between(self.pamax, 47) } else { 0 };
+        let ignored = ignored_address_bits(self.random, granule.log());
+        self.image.set(at, table | past | ignored | 3 | table_bits(self.random));
+    }
+
+    /// Room for a table of stage 1: the address by which stage 1 knows it. If stage 2 is on that is an IPA, and stage 2 maps the entry at
+    /// an offset, with as much of the table as a leaf of stage 2 holds.
+    fn stage1_table(&mut self, size: u64, offset: u64) -> u64 {
         let address = self.image.room(self.random, size);
         let stage2 = match self.stage2 {
             Some(stage2) => stage2,
             None => return address,
         };
         let width = stage2.input_size.min(self.ipa_size);
-        let mut leaf = if self.deep { 3 } else { self.random.pick(&[1, 1, 2, 2, 2, 3, 3, 3, 3, 3]).max(stage2.start) };
-        while shift(leaf) >= width {
+        let mut leaf = self.leaf_level(stage2.granule, stage2.start);
+        while stage2.granule.shift(leaf) >= width {
             leaf += 1;
         }
-        let low = shift(leaf);
+        let low = stage2.granule.shift(leaf).max(size.trailing_zeros() as u64);
         let ipa = self.random.bits(width - low) << low | bits(address, low - 1, 0);
-        self.map_ipa(stage2, ipa, address, leaf, true);
+        self.map_ipa(stage2, ipa + offset, address + offset, leaf, true);
         ipa
     }
 
@@ -278,29 +332,31 @@ impl<'a> Builder<'a> {
     }
 
     /// Builds stage 1's tables for an address. Gives the base register, and the address that they translate it to.
-    pub fn stage1(&mut self, address: u64, input_size: u64) -> (u64, u64) {
-        let start = 4 - (input_size - 12 + 8) / 9;
-        let leaf = if self.deep { 3 } else { self.random.pick(&[1, 2, 2, 3, 3, 3, 3]).max(start) };
-        let size = root_size(input_size, start);
-        let root = self.stage1_table(size);
-        let (mut table, mut high) = (root, input_size - 1);
+    pub fn stage1(&mut self, address: u64, granule: Granule, input_size: u64) -> (u64, u64) {
+        let start = granule.stage1_start(input_size);
+        let leaf = self.leaf_level(granule, start);
+        let size = root_size(granule, input_size, start);
+        let mut low = granule.shift(start);
+        let mut offset = 8 * bits(address, input_size - 1, low);
+        let root = self.stage1_table(size, offset);
+        let mut table = root;
         for level in start..leaf {
-            let at = self.physical(table + 8 * bits(address, high, shift(level)));
+            let at = self.physical(table + offset);
+            offset = 8 * bits(address, low - 1, granule.shift(level + 1));
+            low = granule.shift(level + 1);
             let old = self.image.get(at);
             if old == 0 {
-                table = self.stage1_table(4096);
-                self.image.set(at, table | 3 | table_bits(self.random));
+                table = self.stage1_table(granule.size(), offset);
+                self.set_table(at, table, granule);
             } else {
-                table = bits(old, 47, 12) << 12;
+                table = next_table(old, granule);
             }
-            high = shift(level) - 1;
         }
-        let low = shift(leaf);
-        let at = self.physical(table + 8 * bits(address, high, low));
+        let at = self.physical(table + offset);
         let width = self.stage2.map_or(48, |stage2| stage2.input_size).min(self.ipa_size).max(low);
         let output = self.random.bits(width - low) << low;
         if self.image.get(at) == 0 {
-            let ignored = ignored_address_bits(self.random, leaf);
+            let ignored = ignored_address_bits(self.random, low);
             self.image.set(at, output | ignored | stage1_leaf_bits(self.random) | leaf_type(leaf));
         }
         (base_register(self.random, root, size), output | bits(address, low - 1, 0))
@@ -314,8 +370,8 @@ impl<'a> Builder<'a> {
     /// Maps stage 1's output somewhere, if stage 2 is on and takes it.
     pub fn map_output(&mut self, ipa: u64) {
         if let Some(stage2) = self.stage2.filter(|stage2| ipa >> stage2.input_size == 0) {
-            let leaf = if self.deep { 3 } else { self.random.pick(&[1, 1, 2, 2, 3, 3, 3]).max(stage2.start) };
-            let low = shift(leaf);
+            let leaf = self.leaf_level(stage2.granule, stage2.start);
+            let low = stage2.granule.shift(leaf);
             let address = self.random.bits(stage2.output_size.max(low) - low) << low;
             self.map_ipa(stage2, ipa, address, leaf, false);
         }

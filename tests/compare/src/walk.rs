@@ -1,5 +1,5 @@
-//! An independent walk: one question answered by document 01, with the output size of document 02, §2, in plain Rust, written without
-//! regard to the proved code.
+//! An independent walk: one question answered by document 01, with the output size and the granules of document 02, §2 and §3, in plain
+//! Rust, written without regard to the proved code.
 //! Comments in quotation marks name the heading of document 01 that a rule is from.
 
 pub const READ: u64 = 0;
@@ -169,12 +169,154 @@ impl OutputSize {
     }
 }
 
-/// The lowest input bit that a level's index has.
-pub fn shift(level: u64) -> u64 {
-    12 + 9 * (3 - level)
+/// A translation granule, and what document 02, §3, makes of document 01's 12 and 9.
+#[derive(Clone, Copy, PartialEq, Eq)]
+pub enum Granule {
+    Of4KB,
+    Of16KB,
+    Of64KB,
 }
 
-fn stage1_on(q: &Question) -> bool {
+pub const GRANULES: [Granule; 3] = [Granule::Of4KB, Granule::Of16KB, Granule::Of64KB];
+
+impl Granule {
+    /// By the code of a TG0; none for the reserved one.
+    pub fn of_tg0(code: u64) -> Option<Granule> {
+        match code {
+            0 => Some(Granule::Of4KB),
+            1 => Some(Granule::Of64KB),
+            2 => Some(Granule::Of16KB),
+            _ => None,
+        }
+    }
+
+    /// By the code of TG1; none for the reserved one.
+    pub fn of_tg1(code: u64) -> Option<Granule> {
+        match code {
+            1 => Some(Granule::Of16KB),
+            2 => Some(Granule::Of4KB),
+            3 => Some(Granule::Of64KB),
+            _ => None,
+        }
+    }
+
+    /// Stage 2's.
+    pub fn of_stage2(q: &Question) -> Option<Granule> {
+        Granule::of_tg0(bits(q.vtcr_el2, 15, 14))
+    }
+
+    /// The log of its size in bytes.
+    pub fn log(self) -> u64 {
+        match self {
+            Granule::Of4KB => 12,
+            Granule::Of16KB => 14,
+            Granule::Of64KB => 16,
+        }
+    }
+
+    /// In bytes.
+    pub fn size(self) -> u64 {
+        1 << self.log()
+    }
+
+    /// The bits of an index, so that a table of 8 bytes an entry fills the granule.
+    pub fn stride(self) -> u64 {
+        self.log() - 3
+    }
+
+    /// The lowest input bit that a level's index has.
+    pub fn shift(self, level: u64) -> u64 {
+        self.log() + self.stride() * (3 - level)
+    }
+
+    pub fn allows_block(self, level: u64) -> bool {
+        level == 2 || level == 1 && self == Granule::Of4KB
+    }
+
+    /// The level whose blocks the contiguous rule is for, and the input size from which on it says nothing.
+    pub fn contiguous_rule(self) -> (u64, u64) {
+        match self {
+            Granule::Of4KB => (1, 34),
+            Granule::Of16KB => (2, 30),
+            Granule::Of64KB => (2, 34),
+        }
+    }
+
+    pub fn stage1_start(self, input_size: u64) -> u64 {
+        let index_bits = input_size - self.log();
+        4 - (index_bits + self.stride() - 1) / self.stride()
+    }
+
+    /// By SL0. Not each is a level that stage 2 may start at.
+    pub fn stage2_start(self, sl0: u64) -> i64 {
+        match self {
+            Granule::Of4KB => 2 - sl0 as i64,
+            _ => 3 - sl0 as i64,
+        }
+    }
+
+    /// The first level that stage 2 may start at, and the largest PAMax with which it may not.
+    pub fn first_stage2_start(self) -> (i64, u64) {
+        match self {
+            Granule::Of4KB => (0, 42),
+            Granule::Of16KB => (1, 40),
+            Granule::Of64KB => (1, 42),
+        }
+    }
+
+    pub fn allows_stage2_start(self, level: i64, pamax: u64) -> bool {
+        let (first, forbidden) = self.first_stage2_start();
+        level > first || level == first && pamax > forbidden
+    }
+}
+
+/// What TCR_EL1 says of a half of stage 1's addresses.
+pub struct Half {
+    size_field: u64,
+    pub granule: Option<Granule>,
+    pub disabled: bool,
+}
+
+impl Half {
+    pub fn new(tcr: u64, upper: bool) -> Half {
+        if upper {
+            Half { size_field: bits(tcr, 21, 16), granule: Granule::of_tg1(bits(tcr, 31, 30)), disabled: bit(tcr, 23) }
+        } else {
+            Half { size_field: bits(tcr, 5, 0), granule: Granule::of_tg0(bits(tcr, 15, 14)), disabled: bit(tcr, 7) }
+        }
+    }
+
+    pub fn input_size(&self) -> u64 {
+        64 - self.size_field
+    }
+
+    /// Items 6 and 7.
+    fn passes(&self) -> bool {
+        self.disabled || is_listed(self.size_field) && self.granule.is_some()
+    }
+}
+
+/// Whether the settings allow a size field.
+pub fn is_listed(size_field: u64) -> bool {
+    (16..=39).contains(&size_field)
+}
+
+/// The highest address bit that counts: "Walk", its first rule.
+fn top(q: &Question) -> u64 {
+    let ignored = bit(q.tcr_el1, if bit(q.address, 55) { 38 } else { 37 });
+    if ignored {
+        55
+    } else {
+        63
+    }
+}
+
+/// Whether the address picks the upper half of stage 1.
+pub fn picks_upper(q: &Question) -> bool {
+    bit(q.address, top(q))
+}
+
+pub fn stage1_on(q: &Question) -> bool {
     bit(q.sctlr_el1, 0) && !bit(q.hcr_el2, 12)
 }
 
@@ -186,17 +328,17 @@ pub fn stage2_on(q: &Question) -> bool {
 pub fn failing_item(q: &Question) -> Option<u64> {
     let (one, two) = (stage1_on(q), stage2_on(q));
     let (tcr, vtcr) = (q.tcr_el1, q.vtcr_el2);
-    let listed = |size_field: u64| (16..=39).contains(&size_field);
+    let stage2_size = bits(vtcr, 5, 0);
     let holds = [
         SIZES.contains(&q.pamax),
         !bit(q.hcr_el2, 27),
         bit(q.hcr_el2, 31),
         !(one && bit(q.sctlr_el1, 25) || two && bit(q.sctlr_el2, 25)),
         !one || bits(tcr, 34, 32) <= 5,
-        !one || bit(tcr, 7) || listed(bits(tcr, 5, 0)) && bits(tcr, 15, 14) == 0,
-        !one || bit(tcr, 23) || listed(bits(tcr, 21, 16)) && bits(tcr, 31, 30) == 2,
+        !one || Half::new(tcr, false).passes(),
+        !one || Half::new(tcr, true).passes(),
         !two || bits(vtcr, 18, 16) <= 5,
-        !two || listed(bits(vtcr, 5, 0)) && bits(vtcr, 15, 14) == 0 && 64 - bits(vtcr, 5, 0) <= q.pamax,
+        !two || is_listed(stage2_size) && Granule::of_stage2(q).is_some() && 64 - stage2_size <= q.pamax,
     ];
     holds.iter().position(|held| !held).map(|at| at as u64 + 1)
 }
@@ -225,17 +367,20 @@ enum Step {
 
 /// What a descriptor says to a table walk: the tests of "Walk", in their order.
 fn step(descriptor: u64, level: u64, start: &Start, input: u64) -> Result<Step, Cause> {
+    let granule = start.granule;
     if !bit(descriptor, 0) || level == 3 && !bit(descriptor, 1) {
         return Err(Cause::Translation);
     }
     let beyond_output = bits(descriptor, 47, start.output_size) != 0;
     if bit(descriptor, 1) && level < 3 {
-        return if beyond_output { Err(Cause::AddressSize) } else { Ok(Step::Table(bits(descriptor, 47, 12) << 12)) };
+        let low = granule.log();
+        return if beyond_output { Err(Cause::AddressSize) } else { Ok(Step::Table(bits(descriptor, 47, low) << low)) };
     }
-    if level == 0 {
+    if level < 3 && !granule.allows_block(level) {
         return Err(Cause::Translation);
     }
-    if level == 1 && start.input_size < 34 && bit(descriptor, 52) {
+    let (contiguous_level, settled_from) = granule.contiguous_rule();
+    if level == contiguous_level && start.input_size < settled_from && bit(descriptor, 52) {
         return Err(Cause::Unsettled);
     }
     if beyond_output {
@@ -244,7 +389,7 @@ fn step(descriptor: u64, level: u64, start: &Start, input: u64) -> Result<Step, 
     if !bit(descriptor, 10) {
         return Err(Cause::AccessFlag);
     }
-    let low = shift(level);
+    let low = granule.shift(level);
     Ok(Step::Leaf(bits(descriptor, 47, low) << low | bits(input, low - 1, 0)))
 }
 
@@ -326,7 +471,8 @@ fn combined(one: Attributes, two: Attributes) -> Attributes {
 
 /// Where a stage's table walk starts, and the sizes that bound it.
 pub struct Start {
-    pub input_size: u64,
+    pub granule: Granule,
+    input_size: u64,
     output_size: u64,
     pub level: u64,
     pub table: u64,
@@ -334,27 +480,34 @@ pub struct Start {
 
 impl Start {
     /// The root's address is the base register's bits 47 down to the size of the root; lower ones are ignored.
-    fn new(base_register: u64, input_size: u64, output_size: u64, level: u64) -> Result<Start, Cause> {
+    fn new(granule: Granule, base_register: u64, input_size: u64, output_size: u64, level: u64) -> Result<Start, Cause> {
         if bits(base_register, 47, output_size) != 0 {
             return Err(Cause::AddressSize);
         }
-        let low = 3 + input_size - shift(level);
-        Ok(Start { input_size, output_size, level, table: bits(base_register, 47, low) << low })
+        let low = 3 + input_size - granule.shift(level);
+        Ok(Start { granule, input_size, output_size, level, table: bits(base_register, 47, low) << low })
+    }
+
+    /// How many the root has.
+    pub fn entries(&self) -> u64 {
+        1 << (self.input_size - self.granule.shift(self.level))
     }
 
     /// Stage 2's, for an IPA.
     pub fn stage2(q: &Question, ipa: u64, output: OutputSize) -> Result<Start, Cause> {
         let vtcr = q.vtcr_el2;
+        let granule = Granule::of_stage2(q).expect("the settings refuse a reserved code");
         let size = 64 - bits(vtcr, 5, 0);
-        let level = 2 - bits(vtcr, 7, 6) as i64;
-        if bits(ipa, 47, size) != 0 || level < 0 || level == 0 && q.pamax <= 42 {
+        let level = granule.stage2_start(bits(vtcr, 7, 6));
+        if bits(ipa, 47, size) != 0 || !granule.allows_stage2_start(level, q.pamax) {
             return Err(Cause::Translation);
         }
-        let size_check = size as i64 - ((3 - level) * 9 + 12);
-        if !(1..=13).contains(&size_check) {
+        let (log, stride) = (granule.log() as i64, granule.stride() as i64);
+        let size_check = size as i64 - ((3 - level) * stride + log);
+        if !(1..=stride + 4).contains(&size_check) {
             return Err(Cause::Translation);
         }
-        Start::new(q.vttbr_el2, size, output.of_ps(q), level as u64)
+        Start::new(granule, q.vttbr_el2, size, output.of_ps(q), level as u64)
     }
 }
 
@@ -394,7 +547,7 @@ impl Walk<'_> {
         let (mut table, mut level, mut high, mut tables) = (start.table, start.level, start.input_size - 1, 0);
         loop {
             let stop = |cause| Stop { cause, place, level };
-            let mut at = table + 8 * bits(input, high, shift(level));
+            let mut at = table + 8 * bits(input, high, start.granule.shift(level));
             if place.stage == 1 && stage2_on(self.q) {
                 at = self.stage2(at, true)?.address;
             }
@@ -405,7 +558,7 @@ impl Walk<'_> {
             }
             tables |= descriptor;
             level += 1;
-            high = shift(level) + 8;
+            high = start.granule.shift(level) + start.granule.stride() - 1;
         }
     }
 
@@ -418,35 +571,18 @@ impl Walk<'_> {
         !self.fetches() && self.q.address % self.q.size != 0
     }
 
-    /// The highest address bit that counts: "Walk", its first rule.
-    fn top(&self) -> u64 {
-        let ignored = bit(self.q.tcr_el1, if bit(self.q.address, 55) { 38 } else { 37 });
-        if ignored {
-            55
-        } else {
-            63
-        }
-    }
-
     fn stage1_start(&self) -> Result<Start, Cause> {
-        let (tcr, top) = (self.q.tcr_el1, self.top());
-        let upper = bit(self.q.address, top);
-        let (ttbr, size_field, disabled) =
-            if upper { (self.q.ttbr1_el1, bits(tcr, 21, 16), bit(tcr, 23)) } else { (self.q.ttbr0_el1, bits(tcr, 5, 0), bit(tcr, 7)) };
-        // A disabled half's size was not tested by the settings, so nothing may be computed from it.
-        if disabled {
+        let (top, upper) = (top(self.q), picks_upper(self.q));
+        let (half, ttbr) = (Half::new(self.q.tcr_el1, upper), if upper { self.q.ttbr1_el1 } else { self.q.ttbr0_el1 });
+        // A disabled half's size and granule were not tested by the settings, so nothing may be computed from them.
+        if half.disabled {
             return Err(Cause::Translation);
         }
-        let size = 64 - size_field;
+        let (size, granule) = (half.input_size(), half.granule.expect("the settings refuse a reserved code"));
         if bits(self.q.address, top, size) != if upper { bits(u64::MAX, top, size) } else { 0 } {
             return Err(Cause::Translation);
         }
-        let level = match size {
-            40..=48 => 0,
-            31..=39 => 1,
-            _ => 2,
-        };
-        Start::new(ttbr, size, self.output.of_ips(self.q), level)
+        Start::new(granule, ttbr, size, self.output.of_ips(self.q), granule.stage1_start(size))
     }
 
     fn stage1_permits(&self, leaf: &Leaf) -> bool {
@@ -491,7 +627,7 @@ impl Walk<'_> {
     /// "Attributes", its last paragraph: an address that stage 1 does not translate.
     fn stage1_off(&self) -> Result<Output, Stop> {
         let stop = |cause| Err(Stop { cause, place: STAGE_1, level: 0 });
-        if bits(self.q.address, self.top(), self.q.pamax) != 0 {
+        if bits(self.q.address, top(self.q), self.q.pamax) != 0 {
             return stop(Cause::AddressSize);
         }
         let (memory, shareability) = if bit(self.q.hcr_el2, 12) {
