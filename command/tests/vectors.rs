@@ -1,7 +1,7 @@
 //! The outside answers of tests/vectors, put to the built command: all that it says of a question or an audit is held against them.
 mod common;
 
-use common::walk::{self, Granule, Place, Question};
+use common::walk::{self, Granule, Question};
 use common::{Bench, Memory, Registers};
 use serde_json::{json, Value};
 use std::fs;
@@ -104,27 +104,6 @@ fn status(number: u64) -> i32 {
     }
 }
 
-fn place(step: &Value) -> Place {
-    let number = |name: &str| step[name].as_u64().unwrap_or_else(|| panic!("{name} of {step}"));
-    let address = step["address"].as_str().and_then(|text| text.strip_prefix("0x")).expect("an address");
-    (number("stage"), step["on_walk"].as_bool().expect("on_walk"), number("level"), hex(address))
-}
-
-/// What a step says begins with its descriptor's type, and what it leads to.
-fn check_step(question: &Question, step: &Value, value: u64) {
-    let (stage, _, level, _) = place(step);
-    assert_eq!(step["value"], json!(format!("{value:#x}")));
-    let granule = question.granule(stage);
-    let leaf = format!("of {:#x} at {:#x}, ", granule.span(level), granule.leaf(value, level));
-    let said = match (value & 3, level) {
-        (3, 3) => format!("page {leaf}"),
-        (3, _) => format!("table at {:#x}", granule.table(value)),
-        (1, level) if (granule.first_block()..3).contains(&level) => format!("block {leaf}"),
-        _ => "invalid".to_string(),
-    };
-    assert!(step["says"].as_str().expect("words").starts_with(&said), "{step} does not say: {said}");
-}
-
 /// Runs a check of each line that is asked for on two threads, and names the file's line in what fails.
 fn each_line(name: &str, verb: &str, check: fn(&str)) -> usize {
     let path = format!("{}/../tests/vectors/{name}", env!("CARGO_MANIFEST_DIR"));
@@ -183,13 +162,7 @@ fn check_question(line: &str) {
         batch.prints("").warns(&[&format!("refused {number}")]);
     }
     assert_eq!(told["reads"], json!(log.len()));
-    let steps = told["steps"].as_array().expect("steps");
-    let places: Vec<Place> = steps.iter().map(place).collect();
-    assert_eq!(places.iter().map(|place| place.3).collect::<Vec<_>>(), log);
-    assert_eq!(places, walk::reads(&question, log.len()));
-    for (step, address) in steps.iter().zip(log) {
-        check_step(&question, step, question.memory.descriptor(address).expect("what was read"));
-    }
+    assert_eq!(walk::check_steps(&question, &told), log);
 }
 
 fn check_emulated(line: &str) {
@@ -215,8 +188,7 @@ fn check_emulated(line: &str) {
         }
         _ => panic!("no answer of an emulator: {line}"),
     }
-    let steps = told["steps"].as_array().expect("steps");
-    assert_eq!(steps.iter().map(place).collect::<Vec<_>>(), walk::reads(&question, steps.len()));
+    walk::check_steps(&question, &told);
 }
 
 fn check_audit(line: &str) {

@@ -1,5 +1,6 @@
 //! The walk once more, as far as documents 01 and 02 say which descriptors are read, to hold against what the command says of each.
 use super::{Bench, Memory, Ran, Registers};
+use serde_json::{json, Value};
 
 /// A granule, by the log of its bytes.
 #[derive(Clone, Copy, Debug, PartialEq, Eq)]
@@ -113,10 +114,43 @@ impl Question {
 }
 
 /// Where a read belongs: stage, on-walk, level and address.
-pub type Place = (u64, bool, u64, u64);
+type Place = (u64, bool, u64, u64);
+
+/// The place of a step as the command's JSON has it.
+fn place(step: &Value) -> Place {
+    let number = |name: &str| step[name].as_u64().unwrap_or_else(|| panic!("{name} of {step}"));
+    let digits = step["address"].as_str().and_then(|text| text.strip_prefix("0x")).expect("an address");
+    let address = u64::from_str_radix(digits, 16).expect("a hexadecimal address");
+    (number("stage"), step["on_walk"].as_bool().expect("on_walk"), number("level"), address)
+}
+
+/// What a step says begins with its descriptor's type, and what it leads to.
+fn check_step(question: &Question, step: &Value) {
+    let (stage, _, level, address) = place(step);
+    let value = question.memory.descriptor(address).expect("what was read");
+    assert_eq!(step["value"], json!(format!("{value:#x}")));
+    let granule = question.granule(stage);
+    let leaf = format!("of {:#x} at {:#x}, ", granule.span(level), granule.leaf(value, level));
+    let said = match (value & 3, level) {
+        (3, 3) => format!("page {leaf}"),
+        (3, _) => format!("table at {:#x}", granule.table(value)),
+        (1, level) if (granule.first_block()..3).contains(&level) => format!("block {leaf}"),
+        _ => "invalid".to_string(),
+    };
+    assert!(step["says"].as_str().expect("words").starts_with(&said), "{step} does not say: {said}");
+}
+
+/// Holds all steps of a told question against this walk, and gives the addresses that were read.
+pub fn check_steps(question: &Question, told: &Value) -> Vec<u64> {
+    let steps = told["steps"].as_array().expect("steps");
+    let places: Vec<Place> = steps.iter().map(place).collect();
+    assert_eq!(places, reads(question, places.len()));
+    steps.iter().for_each(|step| check_step(question, step));
+    places.iter().map(|place| place.3).collect()
+}
 
 /// The first reads that a question makes, so many of them. A walk that is ended by a fault is a beginning of one that goes on.
-pub fn reads(question: &Question, count: usize) -> Vec<Place> {
+fn reads(question: &Question, count: usize) -> Vec<Place> {
     let mut walk = Walk { question, places: Vec::new(), count };
     // Where nothing is read registers may be refused.
     if count > 0 {
