@@ -1,6 +1,7 @@
 //! The picture of physical memory: addresses from top to bottom, for each guest a column of grants, frames and tables, and findings across
 //! all columns.
 use crate::guest::Guest;
+use crate::layout::FRAME;
 use crate::map::Finding;
 use crate::ranges::{joined, Range};
 use std::fmt::Write;
@@ -50,7 +51,7 @@ impl Scale {
             let part = Range { start: pair[0], end: pair[1] };
             let next = held.get(held.partition_point(|range| range.end <= part.start));
             let used = next.map_or(false, |range| range.start <= part.start);
-            let doublings = ((part.size() as f64) / 4096.0).log2().max(0.0);
+            let doublings = ((part.size() as f64) / FRAME as f64).log2().max(0.0);
             let height = match (used, many) {
                 (false, false) => GAP,
                 (true, false) => LEAST + DOUBLING * doublings,

@@ -1,7 +1,7 @@
 //! What a guest can reach: stage 2's input addresses from leaf to leaf, by the library's own answers.
 //!
 //! Stage 1 is turned off in the way in which it adds nothing (HCR_EL2.DC), so that an address asked is an IPA and an answer is what stage
-//! 2 says. The level of each answer says how far its entry reaches, and so where the next one begins.
+//! 2 says. The level of each answer says, with stage 2's granule, how far its entry reaches, and so where the next one begins.
 use crate::granule::Granule;
 use crate::layout::DC;
 use crate::ranges::Range;

@@ -41,8 +41,10 @@ const WORDS: [(u64, u64); 19] = [
     (0x4002_8018, 0x5_0343),
 ];
 
-/// The registers of a guest, with those left out in which the two differ.
-const REGISTERS: &str = "\
+/// The registers of a guest, with those in which the two differ.
+fn registers(vtcr: &str, vttbr: &str, tcr: &str, ttbr0: &str) -> Vec<u8> {
+    let text = format!(
+        "\
 # What the hypervisor has for this guest, and the board's size of physical addresses
 PAMAX = 40
 HCR_EL2 = 0x80000001
@@ -55,7 +57,10 @@ TCR_EL1 = {tcr}
 TTBR0_EL1 = {ttbr0}
 TTBR1_EL1 = 0
 MAIR_EL1 = 0xff
-";
+"
+    );
+    text.into_bytes()
+}
 
 fn capture() -> Vec<u8> {
     let mut bytes = vec![0; LENGTH];
@@ -68,25 +73,16 @@ fn capture() -> Vec<u8> {
 
 /// The sample's files.
 fn files() -> Vec<(&'static str, Vec<u8>)> {
-    let registers = |differing: &[(&str, &str)]| {
-        let put = |text: String, &(name, value): &(&str, &str)| text.replace(name, value);
-        differing.iter().fold(REGISTERS.to_string(), put).into_bytes()
-    };
-    let plate = [("{vtcr}", "0x20059"), ("{vttbr}", "0x40000000"), ("{tcr}", "0x200800019"), ("{ttbr0}", "0x1000")];
-    let spectra = [
-        ("{vtcr}", "0x24059 # TG0 is 1: 64KB"),
-        ("{vttbr}", "0x40008000"),
-        ("{tcr}", "0x200808019 # TG0 is 2: 16KB"),
-        ("{ttbr0}", "0x10000"),
-    ];
+    let plate = registers("0x20059", "0x40000000", "0x200800019", "0x1000");
+    let spectra = registers("0x24059 # TG0 is 1: 64KB", "0x40008000", "0x200808019 # TG0 is 2: 16KB", "0x10000");
     let text = |text: &str| text.as_bytes().to_vec();
     vec![
         (CAPTURE, capture()),
-        ("plate.registers", registers(&plate)),
+        ("plate.registers", plate),
         ("plate.addresses", text("0x1008\n0x2000\n")),
         ("plate.grants", text("# address bytes\n0x90000 0x1000\n0x40003000 0x3000\n")),
         ("plate.tables", text("# address level\n0x40001000 2\n0x40002000 3\n")),
-        ("spectra.registers", registers(&spectra)),
+        ("spectra.registers", spectra),
         ("spectra.addresses", text("0x4008\n0x8000\n0xc000\n0x2000000\n0x3fffff8\n0x4000000\n")),
         ("spectra.grants", text("# address bytes\n0xa0000 0x10000\n0x40020000 0x10000\n0x80000000 0x20000000\n")),
         ("spectra.tables", text("# address level\n0x40010000 3\n")),

@@ -128,6 +128,20 @@ fn a_reserved_code_of_a_disabled_half() {
     }
 }
 
+/// With TBI0 and TBI1 the top byte of an address does not pick its half, and so not its granule.
+#[test]
+fn tagged_addresses() {
+    let (registers, memory) = mixed(KB64, KB16, KB4);
+    let registers = Registers { tcr_el1: registers.tcr_el1 | 3 << 37, ..registers };
+    let tag = 0xff << 56;
+    for (address, output) in [(ASKED | tag, "0x40157890"), ((UPPER | ASKED) & !tag, "0x40253890")] {
+        let question = Question { registers, access: "--el 0".to_string(), address, memory: memory.clone() };
+        let told = question.ask().ends(0).json();
+        assert_eq!(told["answer"]["address"], json!(output));
+        walk::check_steps(&question, &told);
+    }
+}
+
 // Blocks, and entries that are none
 
 /// Stage 1 alone, with words at addresses and a root at 0x40000000.
@@ -282,6 +296,18 @@ fn a_map_with_a_short_root() {
     ]);
 }
 
+/// A table of which the capture has only the first half is one to its end. The guest's page is that table.
+#[test]
+fn a_map_with_half_a_table() {
+    let registers = Registers { vtcr_el2: 0x2_4059, ..LONG_ROOT };
+    let memory = Memory::zeros(ROOT, 0x1_8000).with(&[(ROOT, 0x4001_0003), (0x4001_0000, 0x4001_07ff)]);
+    Bench::new(&memory, &registers).over("map").ends(1).shows(&[
+        "  0x10000000-0x1fffffff: not in the capture (first missing: the descriptor at 0x40018000)\n",
+        "  stage 2's tables, granule 64 KiB: 0x40000000-0x40001fff, 0x40010000-0x4001ffff\n",
+        "! 0x40010000-0x4001ffff: guest reaches stage 2 tables of guest\n",
+    ]);
+}
+
 /// Entries of 64KB that lead out of the capture and that Arm leaves open: how many IPAs that is.
 #[test]
 fn a_map_with_what_is_not_known() {
@@ -380,6 +406,15 @@ fn audits_of_a_table_that_is_not_listed() {
     Audit { tables: "0x40010000 2\n", ..Audit::with_64kb() }.finds("finding 3 0x40008000", entry);
     let entry = "0x4002b003: at level 2 it leads to the table at 0x40028000, for IPAs 0x1000000000 to 0x1001ffffff";
     Audit { tables: "", ..Audit::with_16kb() }.finds("finding 3 0x40004000", entry);
+}
+
+/// The root, which is of level 1, is listed as a table of level 2 too, and only as such leads its entry to what is not listed.
+#[test]
+fn audits_of_an_entry_at_two_levels() {
+    let registers = Registers { pamax: 42, vtcr_el2: 0x3_8096, ..LONG_ROOT };
+    let memory = Memory::zeros(ROOT, 0x8000).with(&[(ROOT, 0x4000_7003)]);
+    let entry = "0x40007003: at level 2 it leads to the table at 0x40004000, and no IPA goes through it";
+    Audit { memory, registers, grants: "", tables: "0x40000000 2\n0x40004000 2\n" }.finds("finding 3 0x40000000", entry);
 }
 
 #[test]
