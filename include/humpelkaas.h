@@ -3,7 +3,7 @@
  *
  * Answers from a memory capture of an Arm board, by a walk of both stages of the guest's translation tables
  * as VMSAv8-64 has it for the Non-secure EL1&0 regime, and an audit of stage 2's tables against the memory
- * that the guest was granted.
+ * that the guest was granted. The granule is 4KB, 16KB or 64KB, for each stage and each half of stage 1 its own.
  *
  * What holds for every call:
  *
@@ -109,10 +109,12 @@ enum humpelkaas_number {
  *   3     always                   HCR_EL2.RW is 1
  *   4     stage 1 on; stage 2 on   SCTLR_EL1.EE is 0; SCTLR_EL2.EE is 0
  *   5     stage 1 on               TCR_EL1.IPS is at most 5
- *   6     stage 1 on, EPD0 is 0    TCR_EL1.T0SZ is 16 to 39 and TG0 is 0
- *   7     stage 1 on, EPD1 is 0    TCR_EL1.T1SZ is 16 to 39 and TG1 is 2
+ *   6     stage 1 on, EPD0 is 0    TCR_EL1.T0SZ is 16 to 39 and TG0 is not 3
+ *   7     stage 1 on, EPD1 is 0    TCR_EL1.T1SZ is 16 to 39 and TG1 is not 0
  *   8     stage 2 on               VTCR_EL2.PS is at most 5
- *   9     stage 2 on               VTCR_EL2.T0SZ is 16 to 39, TG0 is 0 and 64 - T0SZ is at most PAMax
+ *   9     stage 2 on               VTCR_EL2.T0SZ is 16 to 39, TG0 is not 3 and 64 - T0SZ is at most PAMax
+ *
+ * A granule of 4KB, 16KB or 64KB is 0, 2 or 1 in TG0, and 2, 1 or 3 in TG1.
  *
  * An audit goes by no register of the guest: it tests 1, 2, 3, 4 for SCTLR_EL2, 8 and 9.
  */
@@ -258,8 +260,9 @@ humpelkaas_batch_answer humpelkaas_batch(const uint8_t *bytes, size_t length, ui
  *   count is a multiple of 4096, each count at least 4096, each range ends by 2^48, and the ranges ascend
  *   with a gap between neighbours: ranges that meet are given as one.
  * - tables[i] and levels[i]: the physical address of a stage 2 table other than the root, and its level, 1 to
- *   3. At most 1024. Each address is a multiple of 4096, each table of 4096 bytes ends by 2^48, and they
- *   strictly ascend by address, then by level. The root is VTTBR_EL2's and need not be listed.
+ *   3. At most 1024. A table has as many bytes as stage 2's granule (4096 with stage 2 off), lies at a multiple
+ *   of them and ends by 2^48, and they strictly ascend by address, then by level. The root is VTTBR_EL2's, with
+ *   all tables that are concatenated to it, and need not be listed.
  *
  * Writes nothing.
  *

@@ -5,7 +5,8 @@ use clap_complete::Shell;
 use humpelkaas::{Access, Kind};
 use std::path::PathBuf;
 
-/// Where do a guest's addresses land? Answers from a memory capture of an Arm board, by the proved VMSAv8-64 walk of both stages.
+/// Where do a guest's addresses land? Answers from a memory capture of an Arm board, by the proved VMSAv8-64 walk of both stages, with
+/// granules of 4KB, 16KB and 64KB.
 ///
 /// Numbers are decimal, or hexadecimal after 0x.
 ///
@@ -117,10 +118,10 @@ pub struct Audit {
     pub memory: Memory,
     #[command(flatten)]
     pub guest: Guest,
-    /// What the guest was granted: lines ADDRESS BYTES
+    /// What the guest was granted: lines ADDRESS BYTES, in multiples of 4,096
     #[arg(long, value_name = "FILE")]
     pub grants: PathBuf,
-    /// Stage 2's tables but the root: lines ADDRESS LEVEL
+    /// Stage 2's tables but the root: lines ADDRESS LEVEL, with addresses in multiples of stage 2's granule
     #[arg(long, value_name = "FILE")]
     pub tables: PathBuf,
     /// Print JSON

@@ -2,7 +2,8 @@
 use crate::arguments::Audit;
 use crate::ask::hex;
 use crate::capture::CaptureFile;
-use crate::layout::{address, is_leaf, is_table, span, PAGE};
+use crate::granule::Granule;
+use crate::layout::is_table;
 use crate::lists;
 use crate::reach;
 use crate::refused;
@@ -23,6 +24,8 @@ struct Maps {
     ipa: Option<u64>,
     /// The physical address that it leads to.
     to: u64,
+    /// How many bytes of IPAs it is for.
+    size: u64,
     table: bool,
 }
 
@@ -34,16 +37,16 @@ struct Lists {
 
 impl Lists {
     /// The entry is what a finding says, as one of a level.
-    fn is_found(&self, finding: Finding, value: u64, level: u64) -> bool {
+    fn is_found(&self, finding: Finding, granule: Granule, value: u64, level: u64) -> bool {
         match finding {
             Finding::UnlistedTable => {
-                let next = Table { address: address(value, PAGE), level: level + 1 };
+                let next = Table { address: granule.table(value), level: level + 1 };
                 is_table(value, level) && !self.tables.contains(&next)
             }
             Finding::OutsideGrants => {
-                let (from, size) = (address(value, span(level)), span(level));
+                let (from, size) = (granule.leaf(value, level), granule.span(level));
                 let holds = |grant: &Grant| grant.address <= from && from + size <= grant.address + grant.bytes;
-                is_leaf(value, level) && !self.grants.iter().any(holds)
+                granule.is_leaf(value, level) && !self.grants.iter().any(holds)
             }
             Finding::NotCaptured | Finding::TouchesGrant => false,
         }
@@ -52,13 +55,14 @@ impl Lists {
     /// What the entry of a finding maps. A table may be audited at several levels, in their order after the root's.
     fn maps(&self, capture: &CaptureFile, registers: &Registers, finding: Finding, entry: u64) -> Option<Maps> {
         let value = capture.descriptor(entry)?;
+        let granule = Granule::stage2(registers);
         let tree = reach::Tables::of(capture.capture(), registers);
         let root = tree.root.contains(&entry).then_some(tree.start);
-        let listed = self.tables.iter().filter(|table| table.address == entry & !(PAGE - 1)).map(|table| table.level);
-        let level = root.into_iter().chain(listed).find(|level| self.is_found(finding, value, *level))?;
+        let listed = self.tables.iter().filter(|table| table.address == granule.table(entry)).map(|table| table.level);
+        let level = root.into_iter().chain(listed).find(|level| self.is_found(finding, granule, value, *level))?;
         let table = is_table(value, level);
-        let to = address(value, if table { PAGE } else { span(level) });
-        Some(Maps { value, level, ipa: tree.lowest_ipa(entry, level), to, table })
+        let to = if table { granule.table(value) } else { granule.leaf(value, level) };
+        Some(Maps { value, level, ipa: tree.lowest_ipa(entry, level), to, size: granule.span(level), table })
     }
 }
 
@@ -73,7 +77,7 @@ fn first(answer: &AuditAnswer) -> String {
 
 impl Maps {
     fn words(&self) -> String {
-        let (value, level, to, last) = (self.value, self.level, self.to, span(self.level) - 1);
+        let (value, level, to, last) = (self.value, self.level, self.to, self.size - 1);
         let leads =
             if self.table { format!("leads to the table at {to:#x}") } else { format!("maps physical {to:#x} to {:#x}", to + last) };
         let whose = match self.ipa {
@@ -89,10 +93,15 @@ impl Maps {
             "level": self.level,
             "table": self.table,
             "to": hex(self.to),
-            "size": hex(span(self.level)),
+            "size": hex(self.size),
             "ipa": self.ipa.map(hex),
         })
     }
+}
+
+/// So many of something.
+fn counted(count: usize, what: &str) -> String {
+    format!("{count} {what}{}", if count == 1 { "" } else { "s" })
 }
 
 /// What to do about a finding.
@@ -108,9 +117,9 @@ fn advice(finding: Finding) -> &'static str {
 fn text(answer: &AuditAnswer, maps: Option<&Maps>, lists: &Lists) -> String {
     let explained = match answer {
         AuditAnswer::Clean => format!(
-            "every access of the guest through the root and {} listed tables stays in its {} grants, whatever it does",
-            lists.tables.len(),
-            lists.grants.len()
+            "every access of the guest through the root and {} stays in its {}, whatever it does",
+            counted(lists.tables.len(), "listed table"),
+            counted(lists.grants.len(), "grant")
         ),
         AuditAnswer::Found { finding, .. } => {
             let maps = maps.map_or(String::new(), |maps| format!("\n{}", maps.words()));

@@ -1,10 +1,11 @@
 //! What one guest can reach, gathered.
-use crate::layout::{span, PAGE};
+use crate::granule::Granule;
+use crate::layout::FRAME;
 use crate::progress::Progress;
 use crate::ranges::{joined, Range};
 use crate::reach::{self, Entry, Found};
 use crate::trouble::Trouble;
-use humpelkaas::{Attributes, Capture, Registers};
+use humpelkaas::{Attributes, Capture, Reads, Registers};
 use std::collections::BTreeSet;
 
 /// How many ranges are kept. Tables that lead to themselves make more than any memory has room for.
@@ -25,7 +26,8 @@ pub struct Guest {
     pub mapped: Vec<Mapped>,
     /// The physical memory that it can reach.
     pub frames: Vec<Range>,
-    /// The pages of stage 2's tables that its walks read.
+    /// Stage 2's granule, and its tables that walks read.
+    pub granule: Granule,
     pub tables: Vec<Range>,
     /// What it was granted, if that was given.
     pub grants: Option<Vec<Range>>,
@@ -44,12 +46,18 @@ impl Mapped {
     }
 }
 
+/// What walks read of tables: of the root, which may be shorter or longer than a table, in frames; of all others the whole.
+fn tables(granule: Granule, reads: &Reads) -> impl Iterator<Item = Range> + '_ {
+    let around = |address: u64, size: u64| Range::new(address & !(size - 1), size);
+    reads.iter().enumerate().map(move |(depth, &read)| around(read, if depth == 0 { FRAME } else { granule.bytes() }))
+}
+
 impl Guest {
     fn add(&mut self, entry: &Entry) {
-        let ipas = Range::new(entry.ipa, span(entry.level));
+        let ipas = entry.ipas;
         match entry.found {
             Found::Memory { address, rights, attributes } => {
-                let next = Mapped { ipas, frames: Range::new(address, span(entry.level)), rights, attributes };
+                let next = Mapped { ipas, frames: Range::new(address, ipas.size()), rights, attributes };
                 match self.mapped.last_mut() {
                     Some(last) if last.goes_on(&next) => (last.ipas.end, last.frames.end) = (next.ipas.end, next.frames.end),
                     _ => self.mapped.push(next),
@@ -71,14 +79,23 @@ impl Guest {
 
     /// Goes through all that stage 2 gives a guest.
     pub fn gather(name: String, capture: Capture, registers: &Registers, grants: Option<Vec<Range>>) -> Result<Guest, Trouble> {
-        let (frames, tables) = (Vec::new(), Vec::new());
-        let mut guest = Guest { name, mapped: Vec::new(), frames, tables, grants, absent: Vec::new(), unsettled: Vec::new() };
-        let mut pages = BTreeSet::new();
+        let granule = Granule::stage2(registers);
+        let mut guest = Guest {
+            name,
+            mapped: Vec::new(),
+            frames: Vec::new(),
+            granule,
+            tables: Vec::new(),
+            grants,
+            absent: Vec::new(),
+            unsettled: Vec::new(),
+        };
+        let mut read = BTreeSet::new();
         let progress = Progress::without_end();
         for entry in reach::entries(capture, registers) {
-            pages.extend(entry.reads.iter().map(|read| read & !(PAGE - 1)));
+            read.extend(tables(granule, &entry.reads));
             guest.add(&entry);
-            progress.reach(entry.ipa);
+            progress.reach(entry.ipas.start);
             if guest.mapped.len() + guest.absent.len() + guest.unsettled.len() > MOST {
                 return Err(Trouble::Io(format!(
                     "{} has over {MOST} ranges of IPAs: its tables lead to themselves, or are shared",
@@ -88,7 +105,7 @@ impl Guest {
         }
         progress.end();
         guest.frames = joined(guest.mapped.iter().map(|mapped| mapped.frames).collect());
-        guest.tables = joined(pages.into_iter().map(|page| Range::new(page, PAGE)).collect());
+        guest.tables = joined(read.into_iter().collect());
         Ok(guest)
     }
 }

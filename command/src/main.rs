@@ -7,6 +7,7 @@ mod ask;
 mod audit;
 mod batch;
 mod capture;
+mod granule;
 mod guest;
 mod layout;
 mod lists;

@@ -88,7 +88,7 @@ fn guest_text(guest: &Guest) -> String {
         let _ = writeln!(text, "  {ipas}: unsettled by Arm");
     }
     let tables: Vec<String> = guest.tables.iter().map(Range::to_string).collect();
-    let _ = writeln!(text, "  stage 2's tables: {}", tables.join(", "));
+    let _ = writeln!(text, "  stage 2's tables, granule {}: {}", bytes(guest.granule.bytes()), tables.join(", "));
     text
 }
 
@@ -118,6 +118,7 @@ fn guest_json(guest: &Guest) -> Value {
     json!({
         "guest": guest.name,
         "mapped": mapped.collect::<Vec<_>>(),
+        "granule": hex(guest.granule.bytes()),
         "tables": guest.tables.iter().map(range).collect::<Vec<_>>(),
         "absent": guest.absent.iter().map(|(ipas, at)| json!({ "ipa": range(ipas), "descriptor": hex(*at) })).collect::<Vec<_>>(),
         "unsettled": guest.unsettled.iter().map(range).collect::<Vec<_>>(),

@@ -1,8 +1,9 @@
 //! The picture of physical memory: addresses from top to bottom, for each guest a column of grants, frames and tables, and findings across
 //! all columns.
 use crate::guest::Guest;
+use crate::layout::FRAME;
 use crate::map::Finding;
-use crate::ranges::Range;
+use crate::ranges::{joined, Range};
 use std::fmt::Write;
 
 const LEFT: f64 = 150.0;
@@ -43,12 +44,14 @@ impl Scale {
         bounds.sort_unstable();
         bounds.dedup();
         let many = bounds.len() > MANY;
+        let held = joined(ranges.to_vec());
         let mut parts = Vec::new();
         let mut y = TOP;
         for pair in bounds.windows(2) {
             let part = Range { start: pair[0], end: pair[1] };
-            let used = ranges.iter().any(|range| range.shared(part).is_some());
-            let doublings = ((part.size() as f64) / 4096.0).log2().max(0.0);
+            let next = held.get(held.partition_point(|range| range.end <= part.start));
+            let used = next.map_or(false, |range| range.start <= part.start);
+            let doublings = ((part.size() as f64) / FRAME as f64).log2().max(0.0);
             let height = match (used, many) {
                 (false, false) => GAP,
                 (true, false) => LEAST + DOUBLING * doublings,
@@ -66,8 +69,9 @@ impl Scale {
 
     /// From where to where a range is drawn. Its ends are bounds of parts.
     fn extent(&self, range: Range) -> (f64, f64) {
-        let inside = self.parts.iter().filter(|(part, ..)| range.start <= part.start && part.end <= range.end);
-        inside.fold((f64::MAX, f64::MIN), |(top, bottom), (_, from, to)| (top.min(*from), bottom.max(*to)))
+        let first = self.parts.partition_point(|(part, ..)| part.start < range.start);
+        let past = self.parts.partition_point(|(part, ..)| part.end <= range.end);
+        (self.parts[first].1, self.parts[past - 1].2)
     }
 }
 

@@ -1,8 +1,10 @@
 //! What a leaf's descriptor allows and which memory it gives, by the library's own answers.
 //!
 //! The leaf is put into two small tables of our making: a root of level 1 whose first entry leads to a table of level 2, and in that
-//! the leaf as a block at address 0. The library is then asked for each kind of access to address 0.
-use crate::layout::{BLOCK, DC, PAGE, TABLE, VM};
+//! the leaf as a block at address 0. The library is then asked for each kind of access to address 0. These tables are of 4KB: what a
+//! leaf allows does not go by the granule.
+use crate::granule::Granule;
+use crate::layout::{BLOCK, DC, TABLE, VM};
 use humpelkaas::{translate, Access, Answer, Attributes, Capture, El1, El2, Kind, Registers};
 use std::fmt;
 
@@ -60,10 +62,11 @@ impl fmt::Display for Leaf {
 
 /// The two tables, with what tables impose and the leaf.
 fn tables(imposed: u64, leaf: u64) -> Vec<u8> {
-    let second = PAGE as usize;
-    let mut bytes = vec![0; 2 * second];
-    bytes[..8].copy_from_slice(&(imposed & IMPOSED | PAGE | TABLE).to_le_bytes());
-    bytes[second..second + 8].copy_from_slice(&(leaf & SAID | ACCESS_FLAG | BLOCK).to_le_bytes());
+    let second = Granule::KB4.bytes();
+    let at = second as usize;
+    let mut bytes = vec![0; 2 * at];
+    bytes[..8].copy_from_slice(&(imposed & IMPOSED | second | TABLE).to_le_bytes());
+    bytes[at..at + 8].copy_from_slice(&(leaf & SAID | ACCESS_FLAG | BLOCK).to_le_bytes());
     bytes
 }
 

@@ -1,9 +1,11 @@
 //! What a guest can reach: stage 2's input addresses from leaf to leaf, by the library's own answers.
 //!
 //! Stage 1 is turned off in the way in which it adds nothing (HCR_EL2.DC), so that an address asked is an IPA and an answer is what stage
-//! 2 says. The level of each answer says how far its entry reaches, and so where the next one begins.
-use crate::layout::{span, DC, ENTRIES};
-use humpelkaas::{translate, Access, Answer, Attributes, Capture, Kind, Reads, Registers, Stage};
+//! 2 says. The level of each answer says, with stage 2's granule, how far its entry reaches, and so where the next one begins.
+use crate::granule::Granule;
+use crate::layout::DC;
+use crate::ranges::Range;
+use humpelkaas::{translate, Access, Answer, Attributes, Capture, Fault, Kind, Reads, Registers, Stage, Told};
 use std::collections::HashSet;
 
 /// TCR_EL1.TBI0 and TBI1: with them, the top byte of an address would not count.
@@ -28,8 +30,7 @@ pub enum Found {
 /// The IPAs of one entry of stage 2's tables.
 #[derive(Clone, Copy, Debug)]
 pub struct Entry {
-    pub ipa: u64,
-    pub level: u64,
+    pub ipas: Range,
     pub found: Found,
     /// The descriptors read for it.
     pub reads: Reads,
@@ -53,6 +54,7 @@ pub struct Path {
 pub struct Tables<'a> {
     capture: Capture<'a>,
     registers: Registers,
+    granule: Granule,
     /// The level of the root, and the address of each of its entries.
     pub start: u64,
     pub root: Vec<u64>,
@@ -67,13 +69,14 @@ impl<'a> Tables<'a> {
     /// The tables of a guest with stage 2 on. Of an empty capture the library says which entry of the root an IPA needs.
     pub fn of(capture: Capture<'a>, registers: &Registers) -> Tables<'a> {
         let registers = stage2_alone(registers);
-        let mut tables = Tables { capture, registers, start: 0, root: Vec::new() };
+        let granule = Granule::stage2(&registers);
+        let mut tables = Tables { capture, registers, granule, start: 0, root: Vec::new() };
         let empty = Capture { base: 0, bytes: &[] };
         let mut ipa = 0;
         while let Answer::Absent { address, level, .. } = read_at(empty, &registers, ipa).0 {
             tables.start = level;
             tables.root.push(address);
-            ipa += span(level);
+            ipa += granule.span(level);
         }
         tables
     }
@@ -98,20 +101,22 @@ impl<'a> Tables<'a> {
     /// tables which are shared or lead to themselves take no longer.
     pub fn lowest_ipa(&self, address: u64, level: u64) -> Option<u64> {
         let mut seen = HashSet::new();
-        let entries = self.root.iter().enumerate().map(|(index, entry)| (index as u64 * span(self.start), *entry));
+        let span = self.granule.span(self.start);
+        let entries = self.root.iter().enumerate().map(|(index, entry)| (index as u64 * span, *entry));
         self.search(entries.collect(), self.start, (address, level), &mut seen)
     }
 
     fn search(&self, entries: Vec<(u64, u64)>, at: u64, wanted: (u64, u64), seen: &mut HashSet<(u64, u64)>) -> Option<u64> {
-        for (ipa, entry) in entries {
-            if (entry, at) == wanted {
-                return Some(ipa);
-            }
+        if at == wanted.1 {
+            return entries.into_iter().find(|(_, entry)| *entry == wanted.0).map(|(ipa, _)| ipa);
+        }
+        for (ipa, _) in entries {
             let below = match self.below(ipa, at) {
-                Some(table) if at < wanted.1 && seen.insert((table, at)) => table,
+                Some(table) if seen.insert((table, at)) => table,
                 _ => continue,
             };
-            let lower = (0..ENTRIES).map(|index| (ipa + index * span(at + 1), below + 8 * index));
+            let span = self.granule.span(at + 1);
+            let lower = (0..self.granule.entries()).map(|index| (ipa + index * span, below + 8 * index));
             if let Some(found) = self.search(lower.collect(), at + 1, wanted, seen) {
                 return Some(found);
             }
@@ -124,45 +129,46 @@ impl<'a> Tables<'a> {
 pub struct Entries<'a> {
     capture: Capture<'a>,
     registers: Registers,
+    granule: Granule,
     /// Where the next one begins.
-    next: Option<u64>,
+    next: u64,
 }
 
 /// The entries of a guest with stage 2 on.
 pub fn entries<'a>(capture: Capture<'a>, registers: &Registers) -> Entries<'a> {
-    Entries { capture, registers: stage2_alone(registers), next: Some(0) }
+    Entries { capture, registers: stage2_alone(registers), granule: Granule::stage2(registers), next: 0 }
 }
 
 impl Entries<'_> {
-    fn ask(&self, kind: Kind, ipa: u64) -> (Answer, Reads) {
-        let told = translate(self.capture, &self.registers, Access { kind, ..READ }, ipa);
-        (told.answer, told.reads)
-    }
-
-    /// What there is at an IPA, the level of its entry, and what was read for it. None past the last IPA.
+    /// What there is at an IPA, the level of its entry, and what was read for it, which is the same for every kind of access. None past
+    /// the last IPA.
     fn at(&self, ipa: u64) -> Option<(Found, u64, Reads)> {
-        let (mut rights, mut memory, mut level) = ([false; 3], None, 0);
+        let (mut rights, mut memory, mut last) = ([false; 3], None, None);
         for (kind, right) in KINDS.into_iter().zip(&mut rights) {
-            let (answer, reads) = self.ask(kind, ipa);
-            match answer {
+            let Told { answer, reads } = translate(self.capture, &self.registers, Access { kind, ..READ }, ipa);
+            let level = match answer {
                 Answer::Translated { address, attributes, level2, .. } => {
                     *right = true;
                     memory = memory.or(Some((address, attributes)));
-                    level = level2;
+                    level2
                 }
                 // Without a read there is no entry: IPAs have come to their end, or there is no root.
                 Answer::Fault { .. } | Answer::Misaligned { .. } if reads.is_empty() => return None,
-                Answer::Fault { stage: Stage::Two { .. }, level: at, .. } => level = at,
+                Answer::Fault { fault: Fault::Permission, stage: Stage::Two { .. }, level, .. } => level,
+                // Only a permission depends on the kind.
+                Answer::Fault { stage: Stage::Two { .. }, level, .. } => return Some((Found::Nothing, level, reads)),
                 Answer::Absent { address, level, .. } => return Some((Found::Absent { address }, level, reads)),
                 Answer::Unsettled { level, .. } => return Some((Found::Unsettled, level, reads)),
                 Answer::Fault { .. } | Answer::Misaligned { .. } | Answer::Refused(_) => return None,
-            }
+            };
+            last = Some((level, reads));
         }
+        let (level, reads) = last?;
         let found = match memory {
             Some((address, attributes)) => Found::Memory { address, rights, attributes },
             None => Found::Nothing,
         };
-        Some((found, level, self.ask(Kind::Read, ipa).1))
+        Some((found, level, reads))
     }
 }
 
@@ -170,9 +176,9 @@ impl Iterator for Entries<'_> {
     type Item = Entry;
 
     fn next(&mut self) -> Option<Entry> {
-        let ipa = self.next?;
-        let (found, level, reads) = self.at(ipa)?;
-        self.next = ipa.checked_add(span(level));
-        Some(Entry { ipa, level, found, reads })
+        let (found, level, reads) = self.at(self.next)?;
+        let ipas = Range::new(self.next, self.granule.span(level));
+        self.next = ipas.end;
+        Some(Entry { ipas, found, reads })
     }
 }

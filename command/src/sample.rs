@@ -1,7 +1,7 @@
 //! A small sample: a capture of a board with two guests, one that moves the plate and one that converts the spectra.
 //!
-//! The first guest's tables are document 01's: a walk of three levels at each stage. The second has its own, with a page that it may only
-//! read and a block of 2 MiB.
+//! The first guest's tables are document 01's: a walk of three levels at each stage, all of 4KB. The second has a granule of 64KB at stage 2
+//! and of 16KB at stage 1: one page of stage 2 has all its tables. It may not write its other page, nor run its block.
 use crate::arguments::{Arguments, Sample};
 use crate::results::Results;
 use crate::trouble::{self, standard_output, Status, Trouble};
@@ -12,10 +12,10 @@ use std::path::Path;
 
 const CAPTURE: &str = "capture.bin";
 const BASE: u64 = 0x4000_0000;
-const LENGTH: usize = 0x1_0000;
+const LENGTH: usize = 0x3_0000;
 
 /// Each word of the capture that is not 0, with its physical address.
-const WORDS: [(u64, u64); 22] = [
+const WORDS: [(u64, u64); 19] = [
     // The plate's stage 2: tables of levels 1, 2 and 3; its pages are the guest's three tables and its data.
     (0x4000_0000, 0x4000_1003),
     (0x4000_1000, 0x4000_2003),
@@ -27,37 +27,40 @@ const WORDS: [(u64, u64); 22] = [
     (0x4000_3000, 0x2003),
     (0x4000_4000, 0x3003),
     (0x4000_5008, 0x5_0743),
-    // The spectra's stage 2: the same shape, then a page to be read only, and a block that is not to be run.
-    (0x4000_8000, 0x4000_9003),
-    (0x4000_9000, 0x4000_a003),
-    (0x4000_9008, 0x0040_0000_8000_07fd),
-    (0x4000_a008, 0x4000_b7ff),
-    (0x4000_a010, 0x4000_c7ff),
-    (0x4000_a018, 0x4000_d7ff),
-    (0x4000_a280, 0xa_077f),
-    // Its stage 1.
-    (0x4000_b000, 0x2003),
-    (0x4000_c000, 0x3003),
-    (0x4000_c008, 0x20_0741),
-    (0x4000_d008, 0x5_0743),
-    (0x4000_d010, 0x5_1743),
-    (0x4000_d018, 0x5_0343),
+    // The spectra's stage 2: a root of level 2 with a table and a block of 512 MiB, and the table of level 3 with two pages of 64 KiB.
+    (0x4000_8000, 0x4001_0003),
+    (0x4000_8008, 0x0040_0000_8000_07fd),
+    (0x4001_0008, 0x4002_07ff),
+    (0x4001_0028, 0xa_077f),
+    // Its stage 1: tables of levels 1, 2 and 3, at IPAs 0x10000, 0x14000 and 0x18000, with a block of 32 MiB and three pages of 16 KiB.
+    (0x4002_0000, 0x1_4003),
+    (0x4002_4000, 0x1_8003),
+    (0x4002_4008, 0x2000_0741),
+    (0x4002_8008, 0x5_0743),
+    (0x4002_8010, 0x6_0743),
+    (0x4002_8018, 0x5_0343),
 ];
 
-const REGISTERS: &str = "\
+/// The registers of a guest, with those in which the two differ.
+fn registers(vtcr: &str, vttbr: &str, tcr: &str, ttbr0: &str) -> Vec<u8> {
+    let text = format!(
+        "\
 # What the hypervisor has for this guest, and the board's size of physical addresses
 PAMAX = 40
 HCR_EL2 = 0x80000001
-VTCR_EL2 = 0x20059
-VTTBR_EL2 = VTTBR
+VTCR_EL2 = {vtcr}
+VTTBR_EL2 = {vttbr}
 SCTLR_EL2 = 0
 # The guest's own
 SCTLR_EL1 = 0x5
-TCR_EL1 = 0x200800019
-TTBR0_EL1 = 0x1000
+TCR_EL1 = {tcr}
+TTBR0_EL1 = {ttbr0}
 TTBR1_EL1 = 0
 MAIR_EL1 = 0xff
-";
+"
+    );
+    text.into_bytes()
+}
 
 fn capture() -> Vec<u8> {
     let mut bytes = vec![0; LENGTH];
@@ -70,18 +73,19 @@ fn capture() -> Vec<u8> {
 
 /// The sample's files.
 fn files() -> Vec<(&'static str, Vec<u8>)> {
-    let registers = |vttbr: &str| REGISTERS.replace("VTTBR\n", &format!("{vttbr}\n")).into_bytes();
+    let plate = registers("0x20059", "0x40000000", "0x200800019", "0x1000");
+    let spectra = registers("0x24059 # TG0 is 1: 64KB", "0x40008000", "0x200808019 # TG0 is 2: 16KB", "0x10000");
     let text = |text: &str| text.as_bytes().to_vec();
     vec![
         (CAPTURE, capture()),
-        ("plate.registers", registers("0x40000000")),
+        ("plate.registers", plate),
         ("plate.addresses", text("0x1008\n0x2000\n")),
         ("plate.grants", text("# address bytes\n0x90000 0x1000\n0x40003000 0x3000\n")),
         ("plate.tables", text("# address level\n0x40001000 2\n0x40002000 3\n")),
-        ("spectra.registers", registers("0x40008000")),
-        ("spectra.addresses", text("0x1008\n0x2000\n0x3000\n0x200000\n0x3ffff8\n0x400000\n")),
-        ("spectra.grants", text("# address bytes\n0xa0000 0x1000\n0x4000b000 0x3000\n0x80000000 0x200000\n")),
-        ("spectra.tables", text("# address level\n0x40009000 2\n0x4000a000 3\n")),
+        ("spectra.registers", spectra),
+        ("spectra.addresses", text("0x4008\n0x8000\n0xc000\n0x2000000\n0x3fffff8\n0x4000000\n")),
+        ("spectra.grants", text("# address bytes\n0xa0000 0x10000\n0x40020000 0x10000\n0x80000000 0x20000000\n")),
+        ("spectra.tables", text("# address level\n0x40010000 3\n")),
     ]
 }
 
@@ -110,8 +114,9 @@ fn is_ours(folder: &Path) -> Result<(), Trouble> {
 }
 
 /// What is run over the sample, in its folder.
-const RUNS: [&str; 6] = [
+const RUNS: [&str; 7] = [
     "ask 0x1008 --el 0 --capture capture.bin --base 0x40000000 --registers plate.registers",
+    "ask 0x4008 --el 0 --capture capture.bin --base 0x40000000 --registers spectra.registers",
     "batch --el 0 --addresses plate.addresses --output plate.csv --capture capture.bin --base 0x40000000 --registers plate.registers",
     "batch --el 0 --addresses spectra.addresses --output spectra.csv --capture capture.bin --base 0x40000000 --registers spectra.registers",
     "audit --grants plate.grants --tables plate.tables --capture capture.bin --base 0x40000000 --registers plate.registers",

@@ -3,7 +3,8 @@
 //! The log has addresses alone. Which stage and level each read belongs to follows from where walks start, which the library says of an
 //! empty capture ("not in the capture: stage, level"), and from which descriptors are tables. What the last one ends with is the answer.
 use crate::capture::CaptureFile;
-use crate::layout::{address, is_leaf, is_table, span, PAGE, VM};
+use crate::granule::Granule;
+use crate::layout::{is_table, LAST_LEVEL, VM};
 use crate::probe::{self, Leaf};
 use humpelkaas::{translate, Access, Answer, Capture, Registers, Stage, Told};
 use std::fmt;
@@ -38,8 +39,9 @@ pub enum Says {
     },
     /// A page or a block of so many bytes.
     Leaf {
-        address: u64,
+        page: bool,
         size: u64,
+        address: u64,
         leaf: Leaf,
     },
     /// Neither: the walk ends here.
@@ -114,31 +116,39 @@ impl Next {
     }
 }
 
-/// What a descriptor says at a stage and level; `imposed` is what stage 1's tables above it say, or-ed.
-fn says(registers: &Registers, stage: Stage, level: u64, imposed: u64, value: u64) -> Says {
-    if is_table(value, level) {
-        return Says::Table { address: address(value, PAGE) };
+/// The granule of a stage, on the way of an address.
+fn granule(registers: &Registers, stage: Stage, address: u64) -> Granule {
+    match stage {
+        Stage::One => Granule::stage1(registers, address),
+        Stage::Two { .. } => Granule::stage2(registers),
     }
-    if !is_leaf(value, level) {
+}
+
+/// What a descriptor says at a stage and level; `imposed` is what stage 1's tables above it say, or-ed.
+fn says(registers: &Registers, granule: Granule, (stage, level): (Stage, u64), imposed: u64, value: u64) -> Says {
+    if is_table(value, level) {
+        return Says::Table { address: granule.table(value) };
+    }
+    if !granule.is_leaf(value, level) {
         return Says::Invalid;
     }
     let leaf = match stage {
         Stage::One => probe::stage1(registers, imposed, value),
         Stage::Two { .. } => probe::stage2(registers, value),
     };
-    Says::Leaf { address: address(value, span(level)), size: span(level), leaf }
+    Says::Leaf { page: level == LAST_LEVEL, size: granule.span(level), address: granule.leaf(value, level), leaf }
 }
 
 /// The steps of a question, or none if they do not fit its answer: then the log was read wrongly, and nothing is said of it.
-pub fn steps(capture: &CaptureFile, registers: &Registers, access: Access, address: u64, told: &Told) -> Option<Vec<Step>> {
-    let starts = starts(registers, access, address).unwrap_or(Starts { stage1: None, stage2: None });
+pub fn steps(capture: &CaptureFile, registers: &Registers, access: Access, asked: u64, told: &Told) -> Option<Vec<Step>> {
+    let starts = starts(registers, access, asked).unwrap_or(Starts { stage1: None, stage2: None });
     let mut next = starts.first();
     let mut imposed = 0;
     let mut steps = Vec::new();
     for &address in told.reads.iter() {
         let (stage, level) = next.place()?;
         let value = capture.descriptor(address)?;
-        let says = says(registers, stage, level, imposed, value);
+        let says = says(registers, granule(registers, stage, asked), (stage, level), imposed, value);
         if stage == Stage::One {
             imposed |= value;
         }
@@ -172,8 +182,10 @@ impl fmt::Display for Says {
     fn fmt(&self, f: &mut fmt::Formatter) -> fmt::Result {
         match self {
             Says::Table { address } => write!(f, "table at {address:#x}"),
-            Says::Leaf { address, size, leaf } if *size == PAGE => write!(f, "page at {address:#x}, {leaf}"),
-            Says::Leaf { address, size, leaf } => write!(f, "block of {size:#x} at {address:#x}, {leaf}"),
+            Says::Leaf { page, size, address, leaf } => {
+                let what = if *page { "page" } else { "block" };
+                write!(f, "{what} of {size:#x} at {address:#x}, {leaf}")
+            }
             Says::Invalid => f.write_str("invalid"),
         }
     }

@@ -1,4 +1,4 @@
-//! `humpelkaas ask`: document 01's cases A to L, in words and as JSON.
+//! `humpelkaas ask`: document 01's cases A to L, in words and as JSON. Larger granules are asked in granules.rs.
 mod common;
 
 use common::{Bench, Memory, Registers};
@@ -38,7 +38,7 @@ fn case(name: &'static str, asked: &'static str) -> Case {
     }
 }
 
-const PAGE_A: &str = "page at 0x90000, rwx, Normal Write-Back, inner shareable";
+const PAGE_A: &str = "page of 0x1000 at 0x90000, rwx, Normal Write-Back, inner shareable";
 
 fn cases() -> Vec<Case> {
     vec![
@@ -52,7 +52,7 @@ fn cases() -> Vec<Case> {
         Case {
             words: &[(0x4000_2280, 0x9_077f)],
             line: "0x1008, write of 8 bytes at EL0: permission fault, stage 2, level 3, IPA 0x50008 (answer 4, 15 descriptors read)",
-            last: Some("page at 0x90000, r-x, Normal Write-Back, inner shareable: this access is not permitted"),
+            last: Some("page of 0x1000 at 0x90000, r-x, Normal Write-Back, inner shareable: this access is not permitted"),
             reads: 15,
             answer: json!({ "number": 4, "stage": 2, "level": 3, "on_walk": false, "ipa": "0x50008" }),
             ..case("B", "0x1008 --el 0 --kind write")
@@ -68,7 +68,7 @@ fn cases() -> Vec<Case> {
         Case {
             words: &[(0x4000_5008, 0x5_0343)],
             line: "0x1008, read of 8 bytes at EL0: access flag fault, stage 1, level 3 (answer 3, 12 descriptors read)",
-            last: Some("page at 0x50000, EL1 rw- EL0 rwx, Normal Write-Back, inner shareable: access flag clear"),
+            last: Some("page of 0x1000 at 0x50000, EL1 rw- EL0 rwx, Normal Write-Back, inner shareable: access flag clear"),
             reads: 12,
             answer: json!({ "number": 3, "stage": 1, "level": 3, "on_walk": false, "ipa": null }),
             ..case("D", "0x1008 --el 0")
@@ -77,7 +77,7 @@ fn cases() -> Vec<Case> {
             length: 0x4000,
             status: 1,
             line: "0x1008, read of 8 bytes at EL0: not in the capture: the descriptor at 0x40004000, stage 1, level 2 (answer 6, 7 descriptors read)",
-            last: Some("page at 0x40004000, rwx, Normal Write-Back, inner shareable"),
+            last: Some("page of 0x1000 at 0x40004000, rwx, Normal Write-Back, inner shareable"),
             reads: 7,
             answer: json!({ "number": 6, "address": "0x40004000", "stage": 1, "level": 2, "on_walk": false }),
             ..case("E", "0x1008 --el 0")
@@ -96,7 +96,7 @@ fn cases() -> Vec<Case> {
         },
         Case {
             line: "0x1008, fetch of 8 bytes at EL1: permission fault, stage 1, level 3 (answer 4, 12 descriptors read)",
-            last: Some("page at 0x50000, EL1 rw- EL0 rwx, Normal Write-Back, inner shareable: this access is not permitted"),
+            last: Some("page of 0x1000 at 0x50000, EL1 rw- EL0 rwx, Normal Write-Back, inner shareable: this access is not permitted"),
             reads: 12,
             answer: json!({ "number": 4, "stage": 1, "level": 3, "on_walk": false, "ipa": null }),
             ..case("H", "0x1008 --el 1 --kind fetch")
@@ -124,11 +124,11 @@ fn cases() -> Vec<Case> {
         Case {
             registers: Registers { tcr_el1: 0x2_0080_0028, ..Registers::cases() },
             status: 2,
-            line: "0x1008, read of 8 bytes at EL0: refused 12 6: settings, item 6: TCR_EL1.T0SZ (bits 5:0) is not 16 to 39, or TG0 (bits 15:14) is not 0, with EPD0 (bit 7) 0.",
+            line: "0x1008, read of 8 bytes at EL0: refused 12 6: settings, item 6: TCR_EL1.T0SZ (bits 5:0) is not 16 to 39, or TG0 (bits 15:14) is not 0 (4KB), 1 (64KB) or 2 (16KB), with EPD0 (bit 7) 0.",
             answer: json!({
                 "number": 12,
                 "item": 6,
-                "what_to_do": "check that the registers were read on the board while the guest ran, in Non-secure AArch64 state with 4KB tables",
+                "what_to_do": "check that the registers were read on the board while the guest ran, in Non-secure AArch64 state",
             }),
             ..case("L", "0x1008 --el 0")
         },
@@ -146,7 +146,7 @@ fn cases() -> Vec<Case> {
             words: &[(0x4000_2280, 0x9_07f3)],
             status: 1,
             line: "0x1008, read of 8 bytes at EL0: unsettled by Arm, stage 2, level 3 (answer 7, 15 descriptors read)",
-            last: Some("page at 0x90000, ---, attributes unsettled by Arm: unsettled by Arm"),
+            last: Some("page of 0x1000 at 0x90000, ---, attributes unsettled by Arm: unsettled by Arm"),
             reads: 15,
             answer: json!({ "number": 7, "stage": 2, "level": 3, "on_walk": false }),
             ..case("unsettled", "0x1008 --el 0")
@@ -156,7 +156,7 @@ fn cases() -> Vec<Case> {
             words: &[(0x4000_2280, 0x10_0009_07ff)],
             registers: Registers { vtcr_el2: 0x1_0059, ..Registers::cases() },
             line: "0x1008, read of 8 bytes at EL0: address size fault, stage 2, level 3, IPA 0x50008 (answer 2, 15 descriptors read)",
-            last: Some("page at 0x1000090000, rwx, Normal Write-Back, inner shareable: its address has more bits than PS or PAMax allows"),
+            last: Some("page of 0x1000 at 0x1000090000, rwx, Normal Write-Back, inner shareable: its address has more bits than PS or PAMax allows"),
             reads: 15,
             answer: json!({ "number": 2, "stage": 2, "level": 3, "on_walk": false, "ipa": "0x50008" }),
             ..case("address size", "0x1008 --el 0")
@@ -166,7 +166,7 @@ fn cases() -> Vec<Case> {
             words: &[(0x4000_5008, 0x100_0005_0743)],
             registers: Registers { tcr_el1: 0x5_0080_0019, ..Registers::cases() },
             line: "0x1008, read of 8 bytes at EL0: address size fault, stage 1, level 3 (answer 2, 12 descriptors read)",
-            last: Some("page at 0x10000050000, EL1 rw- EL0 rwx, Normal Write-Back, inner shareable: its address has more bits than IPS or PAMax allows"),
+            last: Some("page of 0x1000 at 0x10000050000, EL1 rw- EL0 rwx, Normal Write-Back, inner shareable: its address has more bits than IPS or PAMax allows"),
             reads: 12,
             answer: json!({ "number": 2, "stage": 1, "level": 3, "on_walk": false, "ipa": null }),
             ..case("address size, lowered to PAMax", "0x1008 --el 0")
@@ -175,7 +175,7 @@ fn cases() -> Vec<Case> {
         Case {
             words: &[(0x4000_2280, 0x9_07c3)],
             line: "0x1009, read of 2 bytes at EL0: alignment fault, stage 2, IPA 0x50009 (answer 5, 15 descriptors read)",
-            last: Some("page at 0x90000, rw-, Device nGnRnE, outer shareable: Device memory, and the access is not aligned"),
+            last: Some("page of 0x1000 at 0x90000, rw-, Device nGnRnE, outer shareable: Device memory, and the access is not aligned"),
             reads: 15,
             answer: json!({ "number": 5, "stage": 2, "ipa": "0x50009" }),
             ..case("alignment, stage 2", "0x1009 --el 0 --size 2")
@@ -225,19 +225,19 @@ fn the_walk_in_words() {
   read  stage    level  at                value               says
      1  2 for 1      1  0x40000000        0x40001003          table at 0x40001000
      2  2 for 1      2  0x40001000        0x40002003          table at 0x40002000
-     3  2 for 1      3  0x40002008        0x400037ff          page at 0x40003000, rwx, Normal Write-Back, inner shareable
+     3  2 for 1      3  0x40002008        0x400037ff          page of 0x1000 at 0x40003000, rwx, Normal Write-Back, inner shareable
      4  1            1  0x40003000        0x2003              table at 0x2000
      5  2 for 1      1  0x40000000        0x40001003          table at 0x40001000
      6  2 for 1      2  0x40001000        0x40002003          table at 0x40002000
-     7  2 for 1      3  0x40002010        0x400047ff          page at 0x40004000, rwx, Normal Write-Back, inner shareable
+     7  2 for 1      3  0x40002010        0x400047ff          page of 0x1000 at 0x40004000, rwx, Normal Write-Back, inner shareable
      8  1            2  0x40004000        0x3003              table at 0x3000
      9  2 for 1      1  0x40000000        0x40001003          table at 0x40001000
     10  2 for 1      2  0x40001000        0x40002003          table at 0x40002000
-    11  2 for 1      3  0x40002018        0x400057ff          page at 0x40005000, rwx, Normal Write-Back, inner shareable
-    12  1            3  0x40005008        0x50743             page at 0x50000, EL1 rw- EL0 rwx, Normal Write-Back, inner shareable
+    11  2 for 1      3  0x40002018        0x400057ff          page of 0x1000 at 0x40005000, rwx, Normal Write-Back, inner shareable
+    12  1            3  0x40005008        0x50743             page of 0x1000 at 0x50000, EL1 rw- EL0 rwx, Normal Write-Back, inner shareable
     13  2            1  0x40000000        0x40001003          table at 0x40001000
     14  2            2  0x40001000        0x40002003          table at 0x40002000
-    15  2            3  0x40002280        0x907ff             page at 0x90000, rwx, Normal Write-Back, inner shareable
+    15  2            3  0x40002280        0x907ff             page of 0x1000 at 0x90000, rwx, Normal Write-Back, inner shareable
 ";
     Bench::cases().over("ask 0x1008 --el 0").ends(0).prints(expected).says("");
     let sample = "ask 0x1008 --el 0 --capture capture.bin --base 0x40000000 --registers plate.registers";
@@ -256,7 +256,7 @@ fn the_walk_in_json() {
         "level": 3,
         "address": "0x40002008",
         "value": "0x400037ff",
-        "says": "page at 0x40003000, rwx, Normal Write-Back, inner shareable",
+        "says": "page of 0x1000 at 0x40003000, rwx, Normal Write-Back, inner shareable",
     });
     assert_eq!(step(3), &expected);
     let expected = json!({
@@ -272,15 +272,16 @@ fn the_walk_in_json() {
     assert_eq!(step(15)["on_walk"], json!(false));
 }
 
-/// A block of the sample's second guest, at both stages.
+/// A block at both stages.
 #[test]
 fn blocks() {
-    let ran = Bench::sample().over("ask 0x3ffff8 --el 0").ends(0);
+    let memory = Memory::cases().with(&[(0x4000_4008, 0x20_0741), (0x4000_1008, 0x0040_0000_8000_07fd)]);
+    let ran = Bench::new(&memory, &Registers::cases()).over("ask 0x3ffff8 --el 0").ends(0);
     let line = "0x3ffff8, read of 8 bytes at EL0: translated to 0x801ffff8, Normal Write-Back, inner shareable, leaf levels 2 and 2 (answer 0, 10 descriptors read)";
     assert_eq!(ran.first_line(), line);
     ran.shows(&[
-        "     8  1            2  0x4000c008        0x200741            block of 0x200000 at 0x200000, EL1 rw- EL0 rwx, Normal Write-Back, inner shareable\n",
-        "    10  2            2  0x40009008        0x400000800007fd    block of 0x200000 at 0x80000000, rw-, Normal Write-Back, inner shareable\n",
+        "     8  1            2  0x40004008        0x200741            block of 0x200000 at 0x200000, EL1 rw- EL0 rwx, Normal Write-Back, inner shareable\n",
+        "    10  2            2  0x40001008        0x400000800007fd    block of 0x200000 at 0x80000000, rw-, Normal Write-Back, inner shareable\n",
     ]);
 }
 

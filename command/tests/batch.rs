@@ -9,13 +9,13 @@ use std::time::Duration;
 
 const HEADER: &str = "address,answer,output\n";
 
-/// The addresses that are asked of the sample's second guest, and what document 01 says of them. Its stage 1 maps page 1, page 2 to an
-/// IPA without memory, page 3 without an access flag, and the second 2 MiB.
+/// The addresses that are asked of the sample's second guest, and what document 01 says of them. Its stage 1 has pages of 16 KiB and maps
+/// page 1, page 2 to an IPA without memory, page 3 without an access flag, and the second 32 MiB.
 fn answered(address: u64) -> (u64, u64) {
-    match address >> 12 {
-        1 => (0, 0xa_0000 + (address & 0xfff)),
+    match address >> 14 {
+        1 => (0, 0xa_0000 + (address & 0x3fff)),
         3 => (3, 0),
-        0x200..=0x3ff => (0, 0x8000_0000 + (address - 0x20_0000)),
+        0x800..=0xfff => (0, 0x8000_0000 + (address - 0x200_0000)),
         _ => (1, 0),
     }
 }
@@ -34,18 +34,18 @@ fn expected(addresses: &[u64]) -> (String, String) {
     (format!("{HEADER}{lines}"), ledger)
 }
 
-const ASKED: [u64; 6] = [0x1008, 0x2000, 0x3000, 0x20_0000, 0x3f_fff8, 0x40_0000];
+const ASKED: [u64; 6] = [0x4008, 0x8000, 0xc000, 0x200_0000, 0x3ff_fff8, 0x400_0000];
 
 #[test]
 fn results_on_standard_output() {
     let expected = "\
 address,answer,output
-0x1008,0,0xa0008
-0x2000,1,0x0
-0x3000,3,0x0
-0x200000,0,0x80000000
-0x3ffff8,0,0x801ffff8
-0x400000,1,0x0
+0x4008,0,0xa0008
+0x8000,1,0x0
+0xc000,3,0x0
+0x2000000,0,0x80000000
+0x3fffff8,0,0x81fffff8
+0x4000000,1,0x0
 asked 6 translated 3 faulted 3 absent 0 unsettled 0
 ";
     Bench::sample().over("batch --addresses spectra.addresses --el 0").ends(0).prints(expected).says("");
@@ -78,7 +78,7 @@ fn results_in_json() {
 #[test]
 fn the_manner_of_a_batch() {
     let bench = Bench::sample();
-    bench.write("list", "0x1008\n0x200004\n");
+    bench.write("list", "0x4008\n0x2000004\n");
     for (manner, first, second) in [("--kind read", 0, 0), ("--kind write", 4, 0), ("--kind fetch --el 0", 0, 4), ("--kind 2 --el 1", 4, 4)]
     {
         let ran = bench.over(&format!("batch --addresses list {manner}")).ends(0);
@@ -119,16 +119,16 @@ fn an_empty_list() {
 fn forms_of_addresses() {
     let bench = Bench::sample();
     let list = "# what was seen on the bench\r\n\
-        0x1008\r\n\
-        \t 0X200000  # a block\n\
+        0x4008\r\n\
+        \t 0X2000000  # a block\n\
         \n\
-        4104\n\
-        0x0000000000001010\n\
-        0x20_0008#near\n\
-        0x1FF8\n\
-        0x1ff8";
+        16392\n\
+        0x0000000000004010\n\
+        0x200_0008#near\n\
+        0x7FF8\n\
+        0x7ff8";
     bench.write("list", list);
-    let (results, ledger) = expected(&[0x1008, 0x20_0000, 0x1008, 0x1010, 0x20_0008, 0x1ff8, 0x1ff8]);
+    let (results, ledger) = expected(&[0x4008, 0x200_0000, 0x4008, 0x4010, 0x200_0008, 0x7ff8, 0x7ff8]);
     bench.over("batch --addresses list --el 0").ends(0).prints(&(results + &ledger));
 }
 
@@ -153,9 +153,9 @@ fn spread(count: usize) -> Vec<u64> {
         state >> 33
     };
     let one = |number: u64| match number % 4 {
-        0 => 0x1000 + number / 4 % 0x3000,
-        1 => 0x20_0000 + number / 4 % 0x20_0000,
-        2 => number / 4 % 0x60_0000,
+        0 => 0x4000 + number / 4 % 0xc000,
+        1 => 0x200_0000 + number / 4 % 0x200_0000,
+        2 => number / 4 % 0x600_0000,
         _ => number,
     };
     (0..count).map(|_| one(next())).collect()

@@ -2,7 +2,7 @@
 mod common;
 
 use common::{Bench, Kept, Memory, Ran, Registers};
-use serde_json::json;
+use serde_json::{json, Value};
 
 /// The sample's two guests, with words of the capture that differ.
 fn two_guests(words: &[(u64, u64)]) -> Bench {
@@ -86,13 +86,13 @@ plate
   IPA              physical                 size  rights  attributes
   0x1000-0x3fff    0x40003000-0x40005fff  12 KiB  rwx     Normal Write-Back, inner shareable
   0x50000-0x50fff  0x90000-0x90fff         4 KiB  rwx     Normal Write-Back, inner shareable
-  stage 2's tables: 0x40000000-0x40002fff
+  stage 2's tables, granule 4 KiB: 0x40000000-0x40002fff
 spectra
-  IPA                physical                 size  rights  attributes
-  0x1000-0x3fff      0x4000b000-0x4000dfff  12 KiB  rwx     Normal Write-Back, inner shareable
-  0x50000-0x50fff    0xa0000-0xa0fff         4 KiB  r-x     Normal Write-Back, inner shareable
-  0x200000-0x3fffff  0x80000000-0x801fffff   2 MiB  rw-     Normal Write-Back, inner shareable
-  stage 2's tables: 0x40008000-0x4000afff
+  IPA                    physical                  size  rights  attributes
+  0x10000-0x1ffff        0x40020000-0x4002ffff   64 KiB  rwx     Normal Write-Back, inner shareable
+  0x50000-0x5ffff        0xa0000-0xaffff         64 KiB  r-x     Normal Write-Back, inner shareable
+  0x20000000-0x3fffffff  0x80000000-0x9fffffff  512 MiB  rw-     Normal Write-Back, inner shareable
+  stage 2's tables, granule 64 KiB: 0x40008000-0x40009fff, 0x40010000-0x4001ffff
 ";
 
 #[test]
@@ -105,8 +105,8 @@ fn the_sample() {
     for said in [
         "plate was granted 0x40003000-0x40005fff",
         "plate reaches 0x90000-0x90fff",
-        "spectra reaches 0x80000000-0x801fffff",
-        "stage 2 of spectra at 0x40008000-0x4000afff",
+        "spectra reaches 0x80000000-0x9fffffff",
+        "stage 2 of spectra at 0x40010000-0x4001ffff",
     ] {
         assert!(picture.contains(&format!("<title>{said}</title>")), "{said}");
     }
@@ -130,14 +130,15 @@ fn the_sample_in_json() {
         normal(["0x50000", "0x50fff"], ["0x90000", "0x90fff"], "0x1000", "rwx"),
     ];
     let spectra = [
-        normal(["0x1000", "0x3fff"], ["0x4000b000", "0x4000dfff"], "0x3000", "rwx"),
-        normal(["0x50000", "0x50fff"], ["0xa0000", "0xa0fff"], "0x1000", "r-x"),
-        normal(["0x200000", "0x3fffff"], ["0x80000000", "0x801fffff"], "0x200000", "rw-"),
+        normal(["0x10000", "0x1ffff"], ["0x40020000", "0x4002ffff"], "0x10000", "rwx"),
+        normal(["0x50000", "0x5ffff"], ["0xa0000", "0xaffff"], "0x10000", "r-x"),
+        normal(["0x20000000", "0x3fffffff"], ["0x80000000", "0x9fffffff"], "0x20000000", "rw-"),
     ];
+    let guest = |guest: &str, mapped: &[Value], granule: &str, tables: Value| json!({ "guest": guest, "mapped": mapped, "granule": granule, "tables": tables, "absent": [], "unsettled": [] });
     let expected = json!({
         "guests": [
-            { "guest": "plate", "mapped": plate, "tables": [["0x40000000", "0x40002fff"]], "absent": [], "unsettled": [] },
-            { "guest": "spectra", "mapped": spectra, "tables": [["0x40008000", "0x4000afff"]], "absent": [], "unsettled": [] },
+            guest("plate", &plate, "0x1000", json!([["0x40000000", "0x40002fff"]])),
+            guest("spectra", &spectra, "0x10000", json!([["0x40008000", "0x40009fff"], ["0x40010000", "0x4001ffff"]])),
         ],
         "findings": [],
         "out_of_scope": [],
@@ -146,20 +147,21 @@ fn the_sample_in_json() {
     assert_eq!(json, expected);
 }
 
-/// The second guest has the first one's page too, which is beyond its own grants.
+/// The second guest has a page of 64 KiB that begins with the first one's of 4 KiB, which is beyond its own grants.
 #[test]
 fn two_guests_that_overlap() {
-    let bench = two_guests(&[(0x4000_a288, 0x9_07ff)]);
+    let bench = two_guests(&[(0x4001_0030, 0x9_07ff)]);
     let overlap = "0x90000-0x90fff: plate and spectra both reach this";
-    let beyond = "0x90000-0x90fff: spectra reaches this beyond its grants";
+    let beyond = "0x90000-0x9ffff: spectra reaches this beyond its grants";
     let ran = both(&bench, "").ends(1);
     assert_eq!(ran.last_line(), format!("! {overlap}"));
     let ran = both(&bench, GRANTS).ends(1);
     assert!(ran.stdout.ends_with(&format!("! {overlap}\n! {beyond}\n")), "{}", ran.stdout);
     assert!(!ran.stdout.contains("no two guests"));
     let json = both(&bench, &format!("{GRANTS} --json")).ends(1).json();
-    let finding = |words: &str| json!({ "physical": ["0x90000", "0x90fff"], "words": words });
-    let findings = json!([finding("plate and spectra both reach this"), finding("spectra reaches this beyond its grants")]);
+    let finding = |last: &str, words: &str| json!({ "physical": ["0x90000", last], "words": words });
+    let findings =
+        json!([finding("0x90fff", "plate and spectra both reach this"), finding("0x9ffff", "spectra reaches this beyond its grants")]);
     assert_eq!(json["findings"], findings);
     let picture = picture(&bench, &format!("{BOTH} {GRANTS}"), 1);
     assert!(picture.contains(overlap) && picture.contains(beyond), "{picture}");
@@ -173,20 +175,37 @@ fn an_overlap_within_a_block() {
     assert_eq!(ran.last_line(), "! 0x80100000-0x80100fff: plate and spectra both reach this");
 }
 
-/// A guest that reaches its own stage 2, and one that reaches that of the other.
+/// A guest that reaches its own stage 2, and of the other's the last 4 KiB of its root and of its table of 64 KiB.
 #[test]
 fn a_guest_that_reaches_tables() {
-    let bench = two_guests(&[(0x4000_2288, 0x4000_17ff), (0x4000_a288, 0x4000_073f), (0x4000_a290, 0x4000_27ff)]);
-    let own = "0x40001000-0x40001fff: plate reaches stage 2 tables of plate";
-    let other = "0x40002000-0x40002fff: spectra reaches stage 2 tables of plate";
-    let ran = both(&bench, "").ends(1);
     // The page at 0x40000000 is one that no access is permitted to.
-    assert!(ran.stdout.ends_with(&format!("stage 2's tables: 0x40008000-0x4000afff\n! {own}\n! {other}\n")), "{}", ran.stdout);
+    let pages = [(0x4000_2288, 0x4000_17ff), (0x4000_2290, 0x4000_97ff), (0x4000_2298, 0x4001_f7ff), (0x4000_22a0, 0x4000_073f)];
+    let bench = two_guests(&pages);
+    let own = "0x40001000-0x40001fff: plate reaches stage 2 tables of plate";
+    let others = [
+        "0x40009000-0x40009fff: plate reaches stage 2 tables of spectra",
+        "0x4001f000-0x4001ffff: plate reaches stage 2 tables of spectra",
+    ];
+    let ran = both(&bench, "").ends(1);
+    let said = format!("0x40010000-0x4001ffff\n! {own}\n! {}\n! {}\n", others[0], others[1]);
+    assert!(ran.stdout.ends_with(&said), "{}", ran.stdout);
     let picture = picture(&bench, BOTH, 1);
-    assert!(picture.contains(own) && picture.contains(other), "{picture}");
+    assert!(picture.contains(own) && others.iter().all(|other| picture.contains(other)), "{picture}");
     let alone = "map --capture capture.bin --base 0x40000000 --registers plate.registers";
     assert_eq!(bench.run(alone).ends(1).last_line(), format!("! {own}"));
     assert_eq!(bench.run(&format!("{alone} --json")).ends(1).json()["findings"].as_array().unwrap().len(), 1);
+}
+
+/// A page of 64 KiB that has all of the other guest's tables in it, and the guest's own root.
+#[test]
+fn a_large_page_with_tables() {
+    let ran = both(&two_guests(&[(0x4001_0030, 0x4000_07ff)]), "").ends(1);
+    let said = "\
+! 0x40003000-0x40005fff: plate and spectra both reach this
+! 0x40000000-0x40002fff: spectra reaches stage 2 tables of plate
+! 0x40008000-0x40009fff: spectra reaches stage 2 tables of spectra
+";
+    assert!(ran.stdout.ends_with(said), "{}", ran.stdout);
 }
 
 #[test]
@@ -276,7 +295,7 @@ guest
   0x7ff000-0x9fffff          0x805ff000-0x807fffff    2052 KiB  rwx     Normal Write-Back, inner shareable
   0x40000000-0x7fffffff      0x100000000-0x13fffffff     1 GiB  rwx     Normal Write-Back, inner shareable
   0x7fc0000000-0x7fffffffff  0x140000000-0x17fffffff     1 GiB  rwx     Normal Write-Back, inner shareable
-  stage 2's tables: 0x40000000-0x40002fff, 0x40006000-0x40006fff
+  stage 2's tables, granule 4 KiB: 0x40000000-0x40002fff, 0x40006000-0x40006fff
 ";
     bench.over("map").ends(0).prints(expected).says("");
     picture(&bench, &bench.words("map"), 0);
@@ -289,7 +308,7 @@ fn a_long_root() {
     let bench = Bench::new(&memory, &Registers { vtcr_el2: 0x2_0058, ..Registers::cases() });
     bench.over("map").ends(0).shows(&[
         "  0x9600000000-0x963fffffff  0x100000000-0x13fffffff  1 GiB  rwx     Normal Write-Back, inner shareable\n",
-        "  stage 2's tables: 0x40000000-0x40001fff\n",
+        "  stage 2's tables, granule 4 KiB: 0x40000000-0x40001fff\n",
     ]);
 }
 
@@ -362,7 +381,7 @@ fn malformed_grants() {
 /// Two guests whose files of registers have the same name are told apart.
 #[test]
 fn guests_of_one_name() {
-    let bench = two_guests(&[(0x4000_a288, 0x9_07ff)]);
+    let bench = two_guests(&[(0x4001_0030, 0x9_07ff)]);
     for guest in ["plate", "spectra"] {
         std::fs::create_dir(bench.path(guest)).expect("a folder");
         bench.write(&format!("{guest}/registers.txt"), bench.bytes(&format!("{guest}.registers")));

@@ -13,7 +13,7 @@ struct Refused {
     todo: &'static str,
 }
 
-const BOARD: &str = "check that the registers were read on the board while the guest ran, in Non-secure AArch64 state with 4KB tables";
+const BOARD: &str = "check that the registers were read on the board while the guest ran, in Non-secure AArch64 state";
 
 fn settings(numbers: &'static str, meaning: &'static str, change: fn(&mut Registers)) -> Refused {
     let mut registers = Registers::cases();
@@ -25,9 +25,9 @@ fn settings(numbers: &'static str, meaning: &'static str, change: fn(&mut Regist
 fn items() -> Vec<Refused> {
     let pamax = "settings, item 1: PAMax is not 32, 36, 40, 42, 44 or 48";
     let ee = "settings, item 4: EE (bit 25) is 1 in SCTLR_EL1 with stage 1 on, or in SCTLR_EL2 with stage 2 on";
-    let t0 = "settings, item 6: TCR_EL1.T0SZ (bits 5:0) is not 16 to 39, or TG0 (bits 15:14) is not 0, with EPD0 (bit 7) 0";
-    let t1 = "settings, item 7: TCR_EL1.T1SZ (bits 21:16) is not 16 to 39, or TG1 (bits 31:30) is not 2, with EPD1 (bit 23) 0";
-    let vt = "settings, item 9: VTCR_EL2.T0SZ (bits 5:0) is not 16 to 39, or TG0 (bits 15:14) is not 0, or 64 - T0SZ is over PAMax";
+    let t0 = "settings, item 6: TCR_EL1.T0SZ (bits 5:0) is not 16 to 39, or TG0 (bits 15:14) is not 0 (4KB), 1 (64KB) or 2 (16KB), with EPD0 (bit 7) 0";
+    let t1 = "settings, item 7: TCR_EL1.T1SZ (bits 21:16) is not 16 to 39, or TG1 (bits 31:30) is not 1 (16KB), 2 (4KB) or 3 (64KB), with EPD1 (bit 23) 0";
+    let vt = "settings, item 9: VTCR_EL2.T0SZ (bits 5:0) is not 16 to 39, or TG0 (bits 15:14) is not 0 (4KB), 1 (64KB) or 2 (16KB), or 64 - T0SZ is over PAMax";
     let parange = |refused| Refused { todo: "set PAMAX to what the board's ID_AA64MMFR0_EL1.PARange says, in bits", ..refused };
     vec![
         parange(settings("refused 12 1", pamax, |r| r.pamax = 39)),
@@ -38,12 +38,13 @@ fn items() -> Vec<Refused> {
         settings("refused 12 4", ee, |r| r.sctlr_el2 |= 1 << 25),
         settings("refused 12 5", "settings, item 5: TCR_EL1.IPS (bits 34:32) is over 5", |r| r.tcr_el1 |= 6 << 32),
         settings("refused 12 6", t0, |r| r.tcr_el1 = 0x2_0080_0028),
-        settings("refused 12 6", t0, |r| r.tcr_el1 |= 1 << 14),
-        settings("refused 12 7", t1, |r| r.tcr_el1 = 0x2_0000_0019),
+        settings("refused 12 6", t0, |r| r.tcr_el1 |= 3 << 14),
+        settings("refused 12 7", t1, |r| r.tcr_el1 = 0x2_8000_0019),
+        settings("refused 12 7", t1, |r| r.tcr_el1 = 0x2_0019_0019),
         settings("refused 12 7", t1, |r| r.tcr_el1 = 0x2_8028_0019),
         settings("refused 12 8", "settings, item 8: VTCR_EL2.PS (bits 18:16) is over 5", |r| r.vtcr_el2 = 0x6_0059),
         settings("refused 12 9", vt, |r| r.vtcr_el2 = 0x2_0068),
-        settings("refused 12 9", vt, |r| r.vtcr_el2 |= 1 << 14),
+        settings("refused 12 9", vt, |r| r.vtcr_el2 |= 3 << 14),
         settings("refused 12 9", vt, |r| r.pamax = 36),
         // The first item that fails is told.
         settings("refused 12 2", "settings, item 2: HCR_EL2.TGE (bit 27) is 1", |r| r.hcr_el2 = 1 << 27 | 1),
@@ -171,7 +172,7 @@ fn tables(count: u64) -> String {
 #[test]
 fn lists_of_an_audit() {
     let said = "refused 15\nthe list of grants or of tables is malformed.\n\
-        What to do: grants: ADDRESS BYTES in multiples of 4,096, ascending, with a gap between neighbours, at most 256; tables: ADDRESS LEVEL, level 1 to 3, ascending, none twice, at most 1,024.\n";
+        What to do: grants: ADDRESS BYTES in multiples of 4,096, ascending, with a gap between neighbours, at most 256; tables: ADDRESS LEVEL, addresses in multiples of stage 2's granule (4,096, 16,384 or 65,536 by VTCR_EL2.TG0), level 1 to 3, ascending, none twice, at most 1,024.\n";
     let bench = Bench::cases();
     let audit = |grants: &str, tables: &str| {
         bench.write("grants", grants);
@@ -209,7 +210,7 @@ fn lists_of_an_audit() {
 #[test]
 fn no_usable_root() {
     let said = "there is no usable stage 2 root: stage 2 is off, or it faults every IPA before any read.\n\
-        What to do: check HCR_EL2.VM, VTCR_EL2 and VTTBR_EL2 of this guest, and the board's PAMAX.\n";
+        What to do: check HCR_EL2.VM and VTTBR_EL2 of this guest, VTCR_EL2's SL0 and T0SZ for its granule (TG0), and the board's PAMAX.\n";
     let cases = Registers::cases();
     for registers in [
         Registers { hcr_el2: 0x8000_0000, ..cases },

@@ -31,7 +31,7 @@ fn all_that_it_prints() {
         verbs.push(words.split(' ').next().unwrap_or(""));
         bench.run(words).ends(0).prints(printed).says("");
     }
-    assert_eq!(verbs, ["ask", "batch", "batch", "audit", "audit", "map"]);
+    assert_eq!(verbs, ["ask", "ask", "batch", "batch", "audit", "audit", "map"]);
     assert_eq!(bench.names(), FILES);
     assert_eq!(bench.text("plate.csv"), "address,answer,output\n0x1008,0,0x90008\n0x2000,1,0x0\n");
 }

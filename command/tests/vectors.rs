@@ -1,7 +1,7 @@
 //! The outside answers of tests/vectors, put to the built command: all that it says of a question or an audit is held against them.
 mod common;
 
-use common::walk::{self, Place, Question, ADDRESS};
+use common::walk::{self, Granule, Question};
 use common::{Bench, Memory, Registers};
 use serde_json::{json, Value};
 use std::fs;
@@ -104,26 +104,6 @@ fn status(number: u64) -> i32 {
     }
 }
 
-fn place(step: &Value) -> Place {
-    let number = |name: &str| step[name].as_u64().unwrap_or_else(|| panic!("{name} of {step}"));
-    let address = step["address"].as_str().and_then(|text| text.strip_prefix("0x")).expect("an address");
-    (number("stage"), step["on_walk"].as_bool().expect("on_walk"), number("level"), hex(address))
-}
-
-/// What a step says begins with its descriptor's type, and what it leads to.
-fn check_step(step: &Value, value: u64) {
-    let (_, _, level, _) = place(step);
-    assert_eq!(step["value"], json!(format!("{value:#x}")));
-    let size = 1_u64 << (12 + 9 * (3 - level));
-    let said = match (value & 3, level) {
-        (3, 3) => format!("page at {:#x}, ", value & ADDRESS),
-        (3, _) => format!("table at {:#x}", value & ADDRESS),
-        (1, 1) | (1, 2) => format!("block of {size:#x} at {:#x}, ", value & ADDRESS & !(size - 1)),
-        _ => "invalid".to_string(),
-    };
-    assert!(step["says"].as_str().expect("words").starts_with(&said), "{step} does not say: {said}");
-}
-
 /// Runs a check of each line that is asked for on two threads, and names the file's line in what fails.
 fn each_line(name: &str, verb: &str, check: fn(&str)) -> usize {
     let path = format!("{}/../tests/vectors/{name}", env!("CARGO_MANIFEST_DIR"));
@@ -182,13 +162,7 @@ fn check_question(line: &str) {
         batch.prints("").warns(&[&format!("refused {number}")]);
     }
     assert_eq!(told["reads"], json!(log.len()));
-    let steps = told["steps"].as_array().expect("steps");
-    let places: Vec<Place> = steps.iter().map(place).collect();
-    assert_eq!(places.iter().map(|place| place.3).collect::<Vec<_>>(), log);
-    assert_eq!(places, walk::reads(&question, log.len()));
-    for (step, address) in steps.iter().zip(log) {
-        check_step(step, question.memory.descriptor(address).expect("what was read"));
-    }
+    assert_eq!(walk::check_steps(&question, &told), log);
 }
 
 fn check_emulated(line: &str) {
@@ -214,8 +188,7 @@ fn check_emulated(line: &str) {
         }
         _ => panic!("no answer of an emulator: {line}"),
     }
-    let steps = told["steps"].as_array().expect("steps");
-    assert_eq!(steps.iter().map(place).collect::<Vec<_>>(), walk::reads(&question, steps.len()));
+    walk::check_steps(&question, &told);
 }
 
 fn check_audit(line: &str) {
@@ -276,8 +249,11 @@ fn check_entry(bench: &Bench, memory: &Memory, registers: &Registers, number: &s
     // Where no IPA goes through it, only the lists say which level it is of.
     let size = through.map_or_else(|| told["entry"]["size"].clone(), |(_, size)| json!(format!("{size:#x}")));
     assert_eq!((&told["entry"]["value"], &told["entry"]["size"]), (&json!(format!("{value:#x}")), &size));
-    let bytes = if table { 0x1000 } else { hex(size.as_str().expect("a size").trim_start_matches("0x")) };
-    assert_eq!((&told["entry"]["to"], &told["entry"]["table"]), (&json!(format!("{:#x}", value & ADDRESS & !(bytes - 1))), &json!(table)));
+    let granule = Granule::of_tg0(registers.vtcr_el2);
+    let level = told["entry"]["level"].as_u64().expect("a level");
+    assert_eq!(size, json!(format!("{:#x}", granule.span(level))));
+    let to = if table { granule.table(value) } else { granule.leaf(value, level) };
+    assert_eq!((&told["entry"]["to"], &told["entry"]["table"]), (&json!(format!("{to:#x}")), &json!(table)));
 }
 
 #[test]
@@ -286,11 +262,26 @@ fn questions_of_a_model() {
 }
 
 #[test]
+fn questions_of_a_model_with_larger_granules() {
+    assert!(each_line("model-granules.txt", "ask", check_question) > 100);
+}
+
+#[test]
 fn audits_of_a_model() {
     assert!(each_line("model-4k.txt", "audit", check_audit) + each_line("audits-4k.txt", "audit", check_audit) > 400);
 }
 
 #[test]
+fn audits_of_a_model_with_larger_granules() {
+    assert!(each_line("model-granules.txt", "audit", check_audit) > 5);
+}
+
+#[test]
 fn questions_of_an_emulator() {
     assert!(each_line("emulator-4k.txt", "", check_emulated) > 300);
+}
+
+#[test]
+fn questions_of_an_emulator_with_larger_granules() {
+    assert!(each_line("emulator-granules.txt", "", check_emulated) > 100);
 }

@@ -3,14 +3,14 @@ use crate::calls::{self, AuditWords, Lists};
 use crate::{Capture, El2, Refusal};
 use std::fmt;
 
-/// Memory that a guest may have: `bytes` from a physical address on.
+/// Memory that a guest may have: `bytes` from a physical address on, both multiples of 4,096.
 #[derive(Clone, Copy, Debug, PartialEq, Eq)]
 pub struct Grant {
     pub address: u64,
     pub bytes: u64,
 }
 
-/// A table of stage 2 other than the root, and its level, 1 to 3.
+/// A table of stage 2 other than the root, and its level, 1 to 3. It has the bytes of stage 2's granule, and lies at a multiple of them.
 #[derive(Clone, Copy, Debug, PartialEq, Eq)]
 pub struct Table {
     pub address: u64,

@@ -1,5 +1,5 @@
-//! Where do a guest's addresses land? Arm's VMSAv8-64 walk for the Non-secure EL1&0 regime over a memory capture, and the audit of
-//! stage 2's tables against what a guest was granted.
+//! Where do a guest's addresses land? Arm's VMSAv8-64 walk for the Non-secure EL1&0 regime, with granules of 4KB, 16KB and 64KB, over a
+//! memory capture, and the audit of stage 2's tables against what a guest was granted.
 //!
 //! The walk and the audit are the proved library's; this crate gives them types. [`translate`] answers one question, [`batch`] up to
 //! [`BATCH`] at once, [`audit`] says whether stage 2 keeps a guest within its grants. Any input gets an answer: bad input is a

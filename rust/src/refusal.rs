@@ -60,10 +60,12 @@ fn setting(item: u64) -> &'static str {
         3 => "HCR_EL2.RW (bit 31) is 0",
         4 => "EE (bit 25) is 1 in SCTLR_EL1 with stage 1 on, or in SCTLR_EL2 with stage 2 on",
         5 => "TCR_EL1.IPS (bits 34:32) is over 5",
-        6 => "TCR_EL1.T0SZ (bits 5:0) is not 16 to 39, or TG0 (bits 15:14) is not 0, with EPD0 (bit 7) 0",
-        7 => "TCR_EL1.T1SZ (bits 21:16) is not 16 to 39, or TG1 (bits 31:30) is not 2, with EPD1 (bit 23) 0",
+        6 => "TCR_EL1.T0SZ (bits 5:0) is not 16 to 39, or TG0 (bits 15:14) is not 0 (4KB), 1 (64KB) or 2 (16KB), with EPD0 (bit 7) 0",
+        7 => "TCR_EL1.T1SZ (bits 21:16) is not 16 to 39, or TG1 (bits 31:30) is not 1 (16KB), 2 (4KB) or 3 (64KB), with EPD1 (bit 23) 0",
         8 => "VTCR_EL2.PS (bits 18:16) is over 5",
-        9 => "VTCR_EL2.T0SZ (bits 5:0) is not 16 to 39, or TG0 (bits 15:14) is not 0, or 64 - T0SZ is over PAMax",
+        9 => {
+            "VTCR_EL2.T0SZ (bits 5:0) is not 16 to 39, or TG0 (bits 15:14) is not 0 (4KB), 1 (64KB) or 2 (16KB), or 64 - T0SZ is over PAMax"
+        }
         _ => unknown("settings item", item),
     }
 }

@@ -90,6 +90,26 @@ fn refusals_by_number() {
     }
 }
 
+/// Stage 2 with 64KB over stage 1 with 16KB, of 25 bits each: both roots are of level 3.
+#[test]
+fn larger_granules() {
+    let el2 = El2 { vtcr_el2: 0x2_4027, ..REGISTERS.el2 };
+    let el1 = El1 { tcr_el1: 0x2_0080_8027, ttbr0_el1: 0x1_4000, ..REGISTERS.el1 };
+    let mut bytes = vec![0; 0x8000];
+    for (at, word) in [(0x28, 0x9_07ff_u64), (0x8, 0x4000_07ff), (0x4010, 0x5_0743)] {
+        bytes[at..at + 8].copy_from_slice(&word.to_le_bytes());
+    }
+    let told = translate(capture(&bytes), &Registers { el2, el1 }, READ, 0xbff8);
+    let words = "translated to 0x93ff8, Normal Write-Back, inner shareable, leaf levels 3 and 3";
+    assert_eq!((told.answer.to_string().as_str(), &told.reads[..]), (words, &[0x4000_0008, 0x4000_4010, 0x4000_0028][..]));
+    let listed = |address| audit(capture(&bytes), &el2, &[], &[Table { address, level: 3 }]);
+    assert_eq!(listed(0x4000_4000), AuditAnswer::Refused(Refusal::AuditLists));
+    assert_eq!(listed(0x4001_0000), AuditAnswer::Found { finding: Finding::OutsideGrants, address: 0x4000_0008 });
+    let reserved = El1 { tcr_el1: 0x2_0080_c019, ..REGISTERS.el1 };
+    let refused = answer(&memory(), &Registers { el1: reserved, ..REGISTERS }, READ, 0x1008);
+    assert!(refused.to_string().contains("TG0 (bits 15:14) is not 0 (4KB), 1 (64KB) or 2 (16KB)"), "{refused}");
+}
+
 #[test]
 fn a_batch_and_its_ledger() {
     let mut entries = Entries::default();

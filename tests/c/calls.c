@@ -1,6 +1,7 @@
 /*
  * Calls every exported function through the header, from C and from C++, and holds what comes back to document 01's
- * cases. Each constant of the header is met by an answer or a limit of the library.
+ * cases and to what a guest with larger granules has. Each constant of the header is met by an answer or a limit of
+ * the library.
  *
  * Prints what differs and, on the last line, how many values were held and how many differ. Exit status 0 exactly when
  * none do.
@@ -304,9 +305,12 @@ static void settings(void)
     el1 = guest(), el1.sctlr_el1 = 0x2000005, expect_item(4, host(), el1);
     el1 = guest(), el1.tcr_el1 = 0x600800019, expect_item(5, host(), el1);
     el1 = guest(), el1.tcr_el1 = 0x200800028, expect_item(6, host(), el1);
-    el1 = guest(), el1.tcr_el1 = 0x200000019, expect_item(7, host(), el1);
+    el1 = guest(), el1.tcr_el1 = 0x20080C019, expect_item(6, host(), el1); /* TG0 is 3 */
+    el1 = guest(), el1.tcr_el1 = 0x280000019, expect_item(7, host(), el1);
+    el1 = guest(), el1.tcr_el1 = 0x200190019, expect_item(7, host(), el1); /* TG1 is 0 */
     el2 = host(), el2.vtcr_el2 = 0x60059, expect_item(8, el2, guest());
     el2 = host(), el2.vtcr_el2 = 0x20068, expect_item(9, el2, guest());
+    el2 = host(), el2.vtcr_el2 = 0x2C059, expect_item(9, el2, guest()); /* TG0 is 3 */
 }
 
 /* The other refusals of a question. For all of them `expect` sees that the whole log is kept. */
@@ -555,6 +559,78 @@ static void audit_refusals(void)
     expect_audit_refused("M with stage 2 off", audit_at(BASE, sizeof words, off, 2, 2), HUMPELKAAS_REFUSED_ROOT, 0);
 }
 
+/* ---- larger granules */
+
+/* 64KB at stage 2 and 16KB at stage 1, with 25 bits each: both roots are of level 3, and there are no other tables. */
+static humpelkaas_el2 host_64k(void)
+{
+    humpelkaas_el2 el2 = host();
+    el2.vtcr_el2 = 0x24027;
+    return el2;
+}
+
+static humpelkaas_el1 guest_16k(void)
+{
+    humpelkaas_el1 el1 = guest();
+    el1.tcr_el1 = 0x200808027;
+    el1.ttbr0_el1 = 0x14000;
+    return el1;
+}
+
+/* Stage 2 has the page of stage 1's root at IPA 0x10000, and data at IPA 0x50000. */
+static void reset_granules(void)
+{
+    memset(words, 0, sizeof words);
+    put(0x40000008, 0x400007FF);
+    put(0x40000028, 0x907FF);
+    put(0x40004010, 0x50743);
+}
+
+static void expect_mixed(const char *what, humpelkaas_answer got)
+{
+    static const uint64_t reads[] = {0x40000008, 0x40004010, 0x40000028};
+    expect(what, got, translated(0x93FF8, write_back, HUMPELKAAS_INNER_SHAREABLE, 3, COUNT(reads)));
+    for (size_t i = 0; i < COUNT(reads); i++)
+        same(what, "a word of the log", log_words[i], reads[i]);
+}
+
+static void granules(void)
+{
+    humpelkaas_el1 upper = guest_16k();
+    upper.tcr_el1 = 0x24027C080; /* TG1 is 1; the lower range is disabled, so its TG0 of 3 does not count */
+    upper.ttbr0_el1 = 0;
+    upper.ttbr1_el1 = 0x14000;
+
+    reset_granules();
+    expect_mixed("16KB over 64KB", ask(host_64k(), guest_16k(), reading(0xBFF8)));
+    expect_mixed("16KB over 64KB in the upper range", ask(host_64k(), upper, reading(UINT64_C(0xFFFFFFFFFE00BFF8))));
+    expect("the next page of 16KB", ask(host_64k(), guest_16k(), reading(0xC000)),
+           stopped(HUMPELKAAS_TRANSLATION_FAULT, 0, 1, 3, 0, 0, 2));
+}
+
+static void audits_of_granules(void)
+{
+    humpelkaas_el2 el2 = host_64k();
+
+    reset_granules();
+    reset_lists();
+    put(0x40000008, 0);
+    grants[0] = 0x90000;
+    counts[0] = 0x10000;
+    expect_audit("64KB", audit_at(BASE, sizeof words, el2, 1, 0), HUMPELKAAS_CLEAN, 0);
+    counts[0] = 0xF000;
+    expect_audit("64KB with 60KB granted", audit_at(BASE, sizeof words, el2, 1, 0), HUMPELKAAS_LEAF_OUTSIDE_GRANTS,
+                 0x40000028);
+    tables[0] = 0x40004000;
+    levels[0] = 3;
+    expect_audit_refused("64KB with a table of 16KB", audit_at(BASE, sizeof words, el2, 1, 1),
+                         HUMPELKAAS_REFUSED_AUDIT_LISTS, 0);
+    el2.vtcr_el2 = 0x28027;
+    counts[0] = 0x4000;
+    expect_audit("16KB with a table of 16KB", audit_at(BASE, sizeof words, el2, 1, 1), HUMPELKAAS_LEAF_OUTSIDE_GRANTS,
+                 0x40004010);
+}
+
 int main(void)
 {
     case_a();
@@ -567,6 +643,8 @@ int main(void)
     lines();
     audits();
     audit_refusals();
+    granules();
+    audits_of_granules();
     printf("%u held, %u differ\n", held, differ);
     return differ == 0 ? 0 : 1;
 }

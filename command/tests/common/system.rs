@@ -26,8 +26,13 @@ pub fn unprivileged(bench: &Bench, words: &str) -> Ran {
 
 /// Runs a script of `sh` with the command as $0, in the bench's folder, where `tiny` is a file system of 64 KB.
 pub fn with_tiny_file_system(bench: &Bench, script: &str) -> Ran {
+    with_file_system(bench, 64, script)
+}
+
+/// The same with `tiny` of so many kilobytes.
+pub fn with_file_system(bench: &Bench, kilobytes: u64, script: &str) -> Ran {
     fs::create_dir_all(bench.path("tiny")).expect("a folder to mount on");
-    let mount = "mount -t tmpfs -o size=64k none tiny";
+    let mount = &format!("mount -t tmpfs -o size={kilobytes}k none tiny");
     // The mount is seen by the script alone, and goes with it. Root has the right to it; others have it in a name space of their own.
     for spaces in ["--mount", "--user --map-root-user --mount"] {
         let shell = |script: &str| {
