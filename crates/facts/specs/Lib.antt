@@ -3,3 +3,4 @@ pub mod Asked
 pub mod Cases
 pub mod Audits
 pub mod OutputSizes
+pub mod Granules
