@@ -2,8 +2,8 @@
 -- Assumes nothing.
 use mathlib.Core.Path.{_≡_, refl}
 use mathlib.Core.Bool.{false}
-use mathlib.Core.List.{List, [], _∷_, _++_, map}
-use Prim.Native.Nat.{ℕ, _+_, _-_, _*_, _/_, _^_}
+use mathlib.Core.List.{List, [], _∷_, _++_, map, foldr}
+use Prim.Native.Nat.{ℕ, _+_, _-_, _*_, _/_, _%_, _^_}
 use lib.IntN.{ℤ, pos, negsuc}
 use lib.ListN.{length, take, replicate}
 use Rattle.answers.specs.Answers.{address, stage, level, level1, level2, on-walk, ipa, reads}
@@ -188,14 +188,30 @@ abbrev pub faults : (level : ℕ) → Grain → Row × Row
 faults l k = (fault1 l (take l (k .entries)), fault2 (k .address) l (take l (k .entries)))
 
 -- two table steps and a page: the index bits, and the bits below them
-page : each (λ k. alone k (next k 1 ∷ next k 2 ∷ 0x907FF ∷ [])) ≡ to 3 0x90FF8 g4KB ∷ to 3 0x93FF8 g16KB ∷ to 3 0x9FFF8 g64KB ∷ []
+abbrev pub paged : List (Row × Row)
+paged = to 3 0x90FF8 g4KB ∷ to 3 0x93FF8 g16KB ∷ to 3 0x9FFF8 g64KB ∷ []
+
+page : each (λ k. alone k (next k 1 ∷ next k 2 ∷ 0x907FF ∷ [])) ≡ paged
 unfolding opened asked
 page = refl
 
+-- bits 12 and up, below the granule's log, are dropped: of tables, and of the page
+page-low : each (λ k. alone k (map (λ w. w + bytes k - 0x1000) (next k 1 ∷ next k 2 ∷ 0x907FF ∷ []))) ≡ paged
+unfolding opened asked
+page-low = refl
+
 -- a table step and a block of 2MB, 32MB, 512MB
-block : each (λ k. alone k (next k 1 ∷ 0x600007FD ∷ [])) ≡ to 2 0x60101FF8 g4KB ∷ to 2 0x61007FF8 g16KB ∷ to 2 0x7001FFF8 g64KB ∷ []
+abbrev pub blocked : List (Row × Row)
+blocked = to 2 0x60101FF8 g4KB ∷ to 2 0x61007FF8 g16KB ∷ to 2 0x7001FFF8 g64KB ∷ []
+
+block : each (λ k. alone k (next k 1 ∷ 0x600007FD ∷ [])) ≡ blocked
 unfolding opened asked
 block = refl
+
+-- bits 12 and up, below the block's size, are dropped
+block-low : alone g4KB (next g4KB 1 ∷ 0x601FF7FD ∷ []) ∷ alone g16KB (next g16KB 1 ∷ 0x61FFF7FD ∷ []) ∷ alone g64KB (next g64KB 1 ∷ 0x7FFFF7FD ∷ []) ∷ [] ≡ blocked
+unfolding opened asked
+block-low = refl
 
 -- type 01 at level 1: a block of 1GB, and none for 16KB and 64KB
 block-1 : each (λ k. alone k (0xC00007FD ∷ [])) ≡ to 1 0xE0301FF8 g4KB ∷ faults 1 g16KB ∷ faults 1 g64KB ∷ []
@@ -206,3 +222,113 @@ block-1 = refl
 block-3 : each (λ k. alone k (next k 1 ∷ next k 2 ∷ 0x907FD ∷ [])) ≡ each (faults 3)
 unfolding opened asked
 block-3 = refl
+
+-- ---- stage 1's two halves, each with its own granule
+
+-- another place for the same tables
+abbrev pub away : ℕ
+away = 0x10000000
+
+abbrev pub moved : List ℕ → List ℕ
+moved = map (λ a. a + away)
+
+-- the lower half's tables at 0x40000000, the upper half's at 0x50000000
+abbrev pub halvesWith : Grain → Grain → (address : ℕ) → Row
+halvesWith k j at =
+    asked
+    (record {
+      base = 0x40000000;
+      length = 0x20000000;
+      words =
+          zip (k .entries) (next k 1 ∷ next k 2 ∷ 0x907FF ∷ [])
+          ++ zip (moved (j .entries)) (moved (next j 1 ∷ next j 2 ∷ 0x907FF ∷ []));
+    })
+    noHost
+    (guestOf (lowerFields k (k .size) + upperFields j (j .size)) 0x40000000 0x50000000)
+    (access at 0 0)
+    24
+
+-- an address of each
+abbrev pub halves : Grain → Grain → Row × Row
+halves k j = (halvesWith k j (k .address), halvesWith k j (2 ^ 64 - 2 ^ j .size + j .address))
+
+abbrev pub halvesTo : (lower upper : ℕ) → Grain → Grain → Row × Row
+halvesTo lower upper k j = (translated1 lower 3 (k .entries), translated1 upper 3 (moved (j .entries)))
+
+-- codes 0 and 3, 2 and 2, 1 and 1
+two-halves : halves g4KB g64KB ∷ halves g16KB g4KB ∷ halves g64KB g16KB ∷ []
+    ≡ halvesTo 0x90FF8 0x1009FFF8 g4KB g64KB ∷ halvesTo 0x93FF8 0x10090FF8 g16KB g4KB ∷ halvesTo 0x9FFF8 0x10093FF8 g64KB g16KB ∷ []
+unfolding opened asked
+two-halves = refl
+
+-- ---- both stages, each with its own granule
+
+-- stage 2's entries for an IPA, by the number of levels below them
+abbrev pub step : Grain → (ipa n : ℕ) → ℕ
+step k x n = 0x40000000 + (2 - n) * bytes k + 8 * (x / 2 ^ (k .log + (k .log - 3) * n) % 2 ^ (k .log - 3))
+
+abbrev pub steps : Grain → (ipa : ℕ) → List ℕ
+steps k x = map (step k x) (2 ∷ 1 ∷ 0 ∷ [])
+
+-- of the second table of a 64KB stage 1
+steps-taken : each (λ k. steps k 0x40018008)
+    ≡ (0x40000008 ∷ 0x40001000 ∷ 0x400020C0 ∷ [])
+    ∷ (0x40000000 ∷ 0x40004100 ∷ 0x40008030 ∷ [])
+    ∷ (0x40000000 ∷ 0x40010010 ∷ 0x40020008 ∷ [])
+    ∷ []
+steps-taken = refl
+
+-- stage 2 puts each of its pages away
+abbrev pub mapped : Grain → (ipa : ℕ) → List (ℕ × ℕ)
+mapped k x = zip (steps k x) (next k 1 ∷ next k 2 ∷ (x / bytes k * bytes k + away + 0x7FF) ∷ [])
+
+-- stage 1's entries and its page, as IPAs
+abbrev pub ipas : Grain → List ℕ
+ipas k = k .entries ++ (0x40090000 + bytes k - 8) ∷ []
+
+abbrev pub allOf : {A : Type 0} → List (List A) → List A
+allOf = foldr _++_ []
+
+-- the first granule over the second
+abbrev pub over : Grain → Grain → Row
+over k j =
+    asked
+    (record {
+      base = 0x40000000;
+      length = 0x20000000;
+      words = zip (moved (k .entries)) (next k 1 ∷ next k 2 ∷ 0x400907FF ∷ []) ++ allOf (map (mapped j) (ipas k));
+    })
+    (hostFrom j 48 1 (j .size))
+    (lowerGuest k (k .size) 0x40000000)
+    (access (k .address) 0 0)
+    24
+
+-- stage 2's three reads before each of stage 1's, and for the page
+abbrev pub overTo : Grain → Grain → Row
+overTo k j =
+    record {
+      number = 0;
+      values = address (0x50090000 + bytes k - 8) ∷ writeBack ∷ level1 3 ∷ level2 3 ∷ reads 15 ∷ [];
+      log = logged (allOf (map (λ e. steps j e ++ (e + away) ∷ []) (k .entries)) ++ steps j (0x40090000 + bytes k - 8));
+    }
+
+abbrev pub mixed : {A : Type 0} → (Grain → Grain → A) → List A
+mixed f = f g4KB g16KB ∷ f g4KB g64KB ∷ f g16KB g4KB ∷ f g16KB g64KB ∷ f g64KB g4KB ∷ f g64KB g16KB ∷ []
+
+mixed-stages : mixed over ≡ mixed overTo
+unfolding opened asked
+mixed-stages = refl
+
+-- case A with a 64KB stage 1 of 25 bits, whose root is a table of level 3
+abbrev pub case-A-64KB : (at : ℕ) → Row
+case-A-64KB at = asked (image ((0x40003000, 0x50743) ∷ [])) host (el1 5 0x200804027) (access at 0 0) 24
+
+mixed-A : case-A-64KB 8 ≡ record { number = 0; values = address 0x90008 ∷ writeBack ∷ level1 3 ∷ level2 3 ∷ reads 7 ∷ []; log = logged (one ++ 0x40003000 ∷ down 0x40002280) }
+unfolding opened asked
+mixed-A = refl
+
+-- the next 4,096 bytes of stage 1's page, which stage 2 does not map
+mixed-A-next : case-A-64KB 0x1008
+    ≡ record { number = 1; values = stage 2 ∷ level 3 ∷ on-walk false ∷ reads 7 ∷ ipa 0x51008 ∷ []; log = logged (one ++ 0x40003000 ∷ down 0x40002288) }
+unfolding opened asked
+mixed-A-next = refl
