@@ -1,4 +1,4 @@
--- The granules (02, §3): their codes and levels, walks of each stage alone and of both, and the roots that each granule has.
+-- The granules (02, §3): their codes and levels, and walks of each stage alone, of stage 1's halves and of both stages.
 -- Assumes nothing.
 use mathlib.Core.Path.{_≡_, refl}
 use mathlib.Core.Bool.{false}
@@ -128,29 +128,30 @@ next k n = 0x40000003 + n * bytes k
 abbrev pub tables : Grain → (words : List ℕ) → Image
 tables k words = record { base = 0x40000000; length = 3 * bytes k; words = zip (k .entries) words }
 
--- fields of a VA range by its granule and input size: size and granule of the lower half, of the upper; IPS or PS is 5
+-- granule and size fields: of TCR_EL1's lower half and of VTCR_EL2, and of TCR_EL1's upper half
 abbrev pub lowerFields : Grain → (s : ℕ) → ℕ
 lowerFields k s = k .tg0 * 0x4000 + (64 - s)
 
 abbrev pub upperFields : Grain → (s : ℕ) → ℕ
 upperFields k s = k .tg1 * 0x40000000 + (64 - s) * 0x10000
 
--- every attribute index is Normal Write-Back; tcr has the fields beside IPS
+-- IPS is 5, every attribute index Normal Write-Back
 abbrev pub guestOf : (tcr ttbr0 ttbr1 : ℕ) → El1
 guestOf tcr ttbr0 ttbr1 =
     record { sctlr = record { 0 = 5 }; tcr = record { 0 = 0x500000000 + tcr }; ttbr0 = ttbr0; ttbr1 = ttbr1; mair = 0xFFFFFFFFFFFFFFFF }
 
--- stage 1 with the lower half alone, and with the upper half alone
+-- stage 1 with the lower half alone
 abbrev pub lowerGuest : Grain → (s ttbr : ℕ) → El1
 lowerGuest k s ttbr = guestOf (0x800000 + lowerFields k s) ttbr 0
 
-abbrev pub upperGuest : Grain → (s ttbr : ℕ) → El1
-upperGuest k s ttbr = guestOf (0x80 + upperFields k s) 0 ttbr
+-- stage 2 from a level, PS 5
+abbrev pub hostAt : (vttbr : ℕ) → Grain → (pamax level s : ℕ) → El2
+hostAt vttbr k pamax l s = registers pamax 0x80000001 (0x50000 + (k .sl0 - l) * 0x40 + lowerFields k s) vttbr 0
 
--- stage 2 from a level, and stage 2 off; stage 1 off
 abbrev pub hostFrom : Grain → (pamax level s : ℕ) → El2
-hostFrom k pamax l s = registers pamax 0x80000001 (0x50000 + (k .sl0 - l) * 0x40 + lowerFields k s) 0x40000000 0
+hostFrom = hostAt 0x40000000
 
+-- no stage 2, and no stage 1
 abbrev pub noHost : El2
 noHost = registers 48 0x80000000 0 0 0
 
@@ -191,37 +192,37 @@ faults l k = (fault1 l (take l (k .entries)), fault2 (k .address) l (take l (k .
 abbrev pub paged : List (Row × Row)
 paged = to 3 0x90FF8 g4KB ∷ to 3 0x93FF8 g16KB ∷ to 3 0x9FFF8 g64KB ∷ []
 
-page : each (λ k. alone k (next k 1 ∷ next k 2 ∷ 0x907FF ∷ [])) ≡ paged
+walk-page : each (λ k. alone k (next k 1 ∷ next k 2 ∷ 0x907FF ∷ [])) ≡ paged
 unfolding opened asked
-page = refl
+walk-page = refl
 
 -- bits 12 and up, below the granule's log, are dropped: of tables, and of the page
-page-low : each (λ k. alone k (map (λ w. w + bytes k - 0x1000) (next k 1 ∷ next k 2 ∷ 0x907FF ∷ []))) ≡ paged
+walk-page-low : each (λ k. alone k (map (λ w. w + bytes k - 0x1000) (next k 1 ∷ next k 2 ∷ 0x907FF ∷ []))) ≡ paged
 unfolding opened asked
-page-low = refl
+walk-page-low = refl
 
 -- a table step and a block of 2MB, 32MB, 512MB
 abbrev pub blocked : List (Row × Row)
 blocked = to 2 0x60101FF8 g4KB ∷ to 2 0x61007FF8 g16KB ∷ to 2 0x7001FFF8 g64KB ∷ []
 
-block : each (λ k. alone k (next k 1 ∷ 0x600007FD ∷ [])) ≡ blocked
+walk-block : each (λ k. alone k (next k 1 ∷ 0x600007FD ∷ [])) ≡ blocked
 unfolding opened asked
-block = refl
+walk-block = refl
 
 -- bits 12 and up, below the block's size, are dropped
-block-low : alone g4KB (next g4KB 1 ∷ 0x601FF7FD ∷ []) ∷ alone g16KB (next g16KB 1 ∷ 0x61FFF7FD ∷ []) ∷ alone g64KB (next g64KB 1 ∷ 0x7FFFF7FD ∷ []) ∷ [] ≡ blocked
+walk-block-low : each (λ k. alone k (next k 1 ∷ (0x600007FD + 2 ^ (2 * k .log - 3) - 0x1000) ∷ [])) ≡ blocked
 unfolding opened asked
-block-low = refl
+walk-block-low = refl
 
 -- type 01 at level 1: a block of 1GB, and none for 16KB and 64KB
-block-1 : each (λ k. alone k (0xC00007FD ∷ [])) ≡ to 1 0xE0301FF8 g4KB ∷ faults 1 g16KB ∷ faults 1 g64KB ∷ []
+walk-block-1 : each (λ k. alone k (0xC00007FD ∷ [])) ≡ to 1 0xE0301FF8 g4KB ∷ faults 1 g16KB ∷ faults 1 g64KB ∷ []
 unfolding opened asked
-block-1 = refl
+walk-block-1 = refl
 
 -- type 01 at level 3
-block-3 : each (λ k. alone k (next k 1 ∷ next k 2 ∷ 0x907FD ∷ [])) ≡ each (faults 3)
+walk-block-3 : each (λ k. alone k (next k 1 ∷ next k 2 ∷ 0x907FD ∷ [])) ≡ each (faults 3)
 unfolding opened asked
-block-3 = refl
+walk-block-3 = refl
 
 -- ---- stage 1's two halves, each with its own granule
 
@@ -323,7 +324,8 @@ mixed-stages = refl
 abbrev pub case-A-64KB : (at : ℕ) → Row
 case-A-64KB at = asked (image ((0x40003000, 0x50743) ∷ [])) host (el1 5 0x200804027) (access at 0 0) 24
 
-mixed-A : case-A-64KB 8 ≡ record { number = 0; values = address 0x90008 ∷ writeBack ∷ level1 3 ∷ level2 3 ∷ reads 7 ∷ []; log = logged (one ++ 0x40003000 ∷ down 0x40002280) }
+mixed-A : case-A-64KB 8
+    ≡ record { number = 0; values = address 0x90008 ∷ writeBack ∷ level1 3 ∷ level2 3 ∷ reads 7 ∷ []; log = logged (one ++ 0x40003000 ∷ down 0x40002280) }
 unfolding opened asked
 mixed-A = refl
 

@@ -4,3 +4,5 @@ pub mod Cases
 pub mod Audits
 pub mod OutputSizes
 pub mod Granules
+pub mod GranuleRoots
+pub mod GranuleAudits
