@@ -15,7 +15,7 @@ use Rattle.registers.specs.declared.El1.{El1}
 use Rattle.registers.specs.declared.El2.{El2}
 use Rattle.facts.specs.Open.{opened}
 use Rattle.facts.specs.Asked.{Image, Row, asked}
-use Rattle.facts.specs.Cases.{image, registers, el1, host, access, down, logged, one, writeBack, strictDevice}
+use Rattle.facts.specs.Cases.{image, registers, el1, el2, host, guest, access, down, logged, one, writeBack, strictDevice}
 
 -- ---- codes
 
@@ -334,3 +334,26 @@ mixed-A-next : case-A-64KB 0x1008
     ≡ record { number = 1; values = stage 2 ∷ level 3 ∷ on-walk false ∷ reads 7 ∷ ipa 0x51008 ∷ []; log = logged (one ++ 0x40003000 ∷ down 0x40002288) }
 unfolding opened asked
 mixed-A-next = refl
+
+-- case A over a 16KB stage 2 from level 2, whose first page holds stage 1's tables
+mixed-A-16KB : asked
+    (record {
+      base = 0x40000000;
+      length = 0xC000;
+      words =
+          (0x40000000, 0x40004003) ∷ (0x40004000, 0x400087FF) ∷ (0x400040A0, 0x907FF)
+          ∷ (0x40009000, 0x2003) ∷ (0x4000A000, 0x3003) ∷ (0x4000B008, 0x50743) ∷ [];
+    })
+    (el2 0x28059)
+    guest
+    (access 0x1008 0 0)
+    24
+    ≡ record {
+      number = 0;
+      values = address 0x90008 ∷ writeBack ∷ level1 3 ∷ level2 3 ∷ reads 11 ∷ [];
+      log =
+          logged
+          (0x40000000 ∷ 0x40004000 ∷ 0x40009000 ∷ 0x40000000 ∷ 0x40004000 ∷ 0x4000A000 ∷ 0x40000000 ∷ 0x40004000 ∷ 0x4000B008 ∷ 0x40000000 ∷ 0x400040A0 ∷ []);
+    }
+unfolding opened asked
+mixed-A-16KB = refl
