@@ -42,6 +42,9 @@ pageGrant k = (0x90000, bytes k)
 abbrev pub blockGrant : Grain → ℕ × ℕ
 blockGrant k = (0x60000000, blockBytes k)
 
+abbrev pub grants : Grain → List (ℕ × ℕ)
+grants k = pageGrant k ∷ blockGrant k ∷ []
+
 -- over some words and so many bytes
 abbrev pub auditOf : Grain → (length : ℕ) → (words grants tables : List (ℕ × ℕ)) → AuditAnswer
 auditOf k length words = auditedPairs (record { base = 0x40000000; length = length; words = words }) (registers2 k)
@@ -53,29 +56,33 @@ audit k words grants = auditOf k (2 * bytes k) words grants ((table k, 3) ∷ []
 abbrev pub clean : List AuditAnswer
 clean = each (λ k. Clean)
 
-audit-clean : each (λ k. audit k (words k) (pageGrant k ∷ blockGrant k ∷ [])) ≡ clean
+audit-clean : each (λ k. audit k (words k) (grants k)) ≡ clean
 unfolding opened audited
 audit-clean = refl
 
 -- bits from 12 up, below the granule in a table's entry and a page's, and below the block's size in a block's, do not count
 abbrev pub lowWords : Grain → List (ℕ × ℕ)
-lowWords k = (0x40000000, next k 2 - 0x1000) ∷ (0x40000008, 0x600007FD + blockBytes k - 0x1000) ∷ (lastEntry k, 0x907FF + bytes k - 0x1000) ∷ []
+lowWords k =
+    (0x40000000, next k 2 - 0x1000) ∷ (0x40000008, 0x600007FD + blockBytes k - 0x1000) ∷ (lastEntry k, 0x907FF + bytes k - 0x1000) ∷ []
 
-audit-low : each (λ k. audit k (lowWords k) (pageGrant k ∷ blockGrant k ∷ [])) ≡ clean
+audit-low : each (λ k. audit k (lowWords k) (grants k)) ≡ clean
 unfolding opened audited
 audit-low = refl
 
--- finding 1: the table's last entry is cut off, or the root's
-audit-cut : each (λ k. auditOf k (2 * bytes k - 8) (words k) (pageGrant k ∷ blockGrant k ∷ []) ((table k, 3) ∷ [])) ≡ each (λ k. found NotCaptured (table k))
+-- finding 1: the table's last entry is cut off
+audit-cut : each (λ k. auditOf k (2 * bytes k - 8) (words k) (grants k) ((table k, 3) ∷ []))
+    ≡ each (λ k. found NotCaptured (table k))
 unfolding opened audited
 audit-cut = refl
 
+-- the root's
 audit-cut-root : auditOf g4KB 0xFF8 [] [] [] ∷ auditOf g16KB 0xF8 [] [] [] ∷ auditOf g64KB 8 [] [] [] ∷ [] ≡ each (λ k. found NotCaptured 0x40000000)
 unfolding opened audited
 audit-cut-root = refl
 
 -- finding 2: the table's last frame is granted
-audit-touched : each (λ k. audit k (words k) (pageGrant k ∷ (table k + bytes k - 0x1000, 0x1000) ∷ blockGrant k ∷ [])) ≡ each (λ k. found TouchesGrant (table k))
+audit-touched : each (λ k. audit k (words k) (pageGrant k ∷ (table k + bytes k - 0x1000, 0x1000) ∷ blockGrant k ∷ []))
+    ≡ each (λ k. found TouchesGrant (table k))
 unfolding opened audited
 audit-touched = refl
 
@@ -127,7 +134,8 @@ unfolding opened audited
 audit-level-1-table = refl
 
 -- in a listed table
-audit-listed-1 : each (λ k. auditOf k (2 * bytes k) ((table k, 0xC00007FD) ∷ []) [] ((table k, 1) ∷ [])) ≡ found OutsideGrants (table g4KB) ∷ Clean ∷ Clean ∷ []
+audit-listed-1 : each (λ k. auditOf k (2 * bytes k) ((table k, 0xC00007FD) ∷ []) [] ((table k, 1) ∷ []))
+    ≡ found OutsideGrants (table g4KB) ∷ Clean ∷ Clean ∷ []
 unfolding opened audited
 audit-listed-1 = refl
 
@@ -156,7 +164,8 @@ unfolding opened audited
 audit-top = refl
 
 -- with stage 2 off a table has 4,096 bytes, whatever VTCR_EL2's TG0 is
-audit-off : each (λ k. map (tableOff k) (0x1000 ∷ 0x1800 ∷ (2 ^ 48 - 0x1000) ∷ 2 ^ 48 ∷ [])) ≡ each (λ k. rootless ∷ malformed ∷ rootless ∷ malformed ∷ [])
+audit-off : each (λ k. map (tableOff k) (0x1000 ∷ 0x1800 ∷ (2 ^ 48 - 0x1000) ∷ 2 ^ 48 ∷ []))
+    ≡ each (λ k. rootless ∷ malformed ∷ rootless ∷ malformed ∷ [])
 unfolding opened audited
 audit-off = refl
 
@@ -172,14 +181,20 @@ abbrev pub rootFrom : Grain → (pamax level s : ℕ) → AuditAnswer
 rootFrom k pamax l s = auditedPairs (cut 0) (hostFrom k pamax l s) [] []
 
 -- 0 and 1 index bits, 16 tables and a bit more
-audit-bits : map (rootFrom g4KB 48 1) (30 ∷ 31 ∷ 43 ∷ 44 ∷ []) ∷ map (rootFrom g16KB 48 2) (25 ∷ 26 ∷ 40 ∷ 41 ∷ []) ∷ map (rootFrom g64KB 48 2) (29 ∷ 30 ∷ 46 ∷ 47 ∷ []) ∷ []
+audit-bits : map (rootFrom g4KB 48 1) (30 ∷ 31 ∷ 43 ∷ 44 ∷ [])
+    ∷ map (rootFrom g16KB 48 2) (25 ∷ 26 ∷ 40 ∷ 41 ∷ [])
+    ∷ map (rootFrom g64KB 48 2) (29 ∷ 30 ∷ 46 ∷ 47 ∷ [])
+    ∷ []
     ≡ each (λ k. rootless ∷ accepted ∷ accepted ∷ rootless ∷ [])
 unfolding opened audited
 audit-bits = refl
 
 -- PAMax on both sides
-audit-pamax : rootFrom g4KB 42 0 40 ∷ rootFrom g4KB 44 0 40 ∷ rootFrom g16KB 40 1 40 ∷ rootFrom g16KB 42 1 40 ∷ rootFrom g64KB 42 1 42 ∷ rootFrom g64KB 44 1 43 ∷ []
-    ≡ rootless ∷ accepted ∷ rootless ∷ accepted ∷ rootless ∷ accepted ∷ []
+audit-pamax : (rootFrom g4KB 42 0 40 ∷ rootFrom g4KB 44 0 40 ∷ [])
+    ∷ (rootFrom g16KB 40 1 40 ∷ rootFrom g16KB 42 1 40 ∷ [])
+    ∷ (rootFrom g64KB 42 1 42 ∷ rootFrom g64KB 44 1 43 ∷ [])
+    ∷ []
+    ≡ each (λ k. rootless ∷ accepted ∷ [])
 unfolding opened audited
 audit-pamax = refl
 

@@ -1,5 +1,5 @@
--- The roots of each granule (02, §3): the two entries of 16KB, concatenated tables, PAMax; the contiguous rule, whose blocks stand in a root here;
--- and the reserved granule codes.
+-- The roots of each granule (02, §3): the two entries of 16KB, concatenated tables, PAMax; the contiguous rule, of leaves that stand in a
+-- root; and the reserved granule codes.
 -- Assumes nothing.
 use mathlib.Core.Path.{_≡_, refl}
 use mathlib.Core.Bool.{false}
@@ -20,7 +20,8 @@ use Rattle.facts.specs.Open.{opened}
 use Rattle.facts.specs.Asked.{Image, Row, asked, auditedPairs, audited}
 use Rattle.facts.specs.Cases.{image, registers, el1, el2, host, guest, access, logged, writeBack, grants, tables}
 use Rattle.facts.specs.Granules as G
-use Rattle.facts.specs.Granules.{Grain, g4KB, g16KB, g64KB, next, guestOf, lowerGuest, hostAt, hostFrom, noHost, noGuest, translated1, translated2, fault1, fault2, away, moved, mapped, allOf}
+use Rattle.facts.specs.Granules.{Grain, g4KB, g16KB, g64KB, next, guestOf, lowerGuest, hostAt, hostFrom, noHost, noGuest}
+use Rattle.facts.specs.Granules.{translated1, translated2, fault1, fault2, away, moved, mapped, allOf}
 
 -- ---- the root of 16KB and 48 bits, at level 0 of stage 1: two entries before the three tables
 
@@ -28,7 +29,11 @@ use Rattle.facts.specs.Granules.{Grain, g4KB, g16KB, g64KB, next, guestO
 abbrev pub rootOfTwo : (bit entry : ℕ) → Row
 rootOfTwo bit entry =
     asked
-    (record { base = 0x3FFFFFF0; length = 0xC010; words = zip ((0x3FFFFFF0 + 8 * bit) ∷ g16KB .entries) (entry ∷ next g16KB 1 ∷ next g16KB 2 ∷ 0x907FF ∷ []) })
+    (record {
+      base = 0x3FFFFFF0;
+      length = 0xC010;
+      words = zip ((0x3FFFFFF0 + 8 * bit) ∷ g16KB .entries) (entry ∷ next g16KB 1 ∷ next g16KB 2 ∷ 0x907FF ∷ []);
+    })
     noHost
     (lowerGuest g16KB 48 0x3FFFFFF0)
     (access (bit * 2 ^ 47 + g16KB .address) 0 0)
@@ -247,7 +252,10 @@ unfolding opened
 reserved-audit = refl
 
 -- refused before anything is read
-reserved-asked : map (λ g. asked (image []) host g (access 8 0 0) 24) (withTg0 0 3 ∷ withTg1 0 0 ∷ []) ++ asked (image []) (withTg 3) guest (access 8 0 0) 24 ∷ []
+reserved-asked : asked (image []) host (withTg0 0 3) (access 8 0 0) 24
+    ∷ asked (image []) host (withTg1 0 0) (access 8 0 0) 24
+    ∷ asked (image []) (withTg 3) guest (access 8 0 0) 24
+    ∷ []
     ≡ map (λ n. record { number = 12; values = item n ∷ []; log = logged [] }) (6 ∷ 7 ∷ 9 ∷ [])
 unfolding opened asked
 reserved-asked = refl
