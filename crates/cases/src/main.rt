@@ -1,4 +1,4 @@
-// Runs the cases of document 01, and the output size of document 02, on the proved question, batch and audit and prints a line for each.
+// Runs the cases of document 01, and the output size and the granules of document 02, on the proved question, batch and audit and prints a line for each.
 use access::Access;
 use registers::El1;
 use registers::El2;
@@ -8,6 +8,7 @@ use registers::tcr::Tcr;
 use registers::vtcr::Vtcr;
 
 mod audits;
+mod granules;
 mod image;
 mod print;
 mod sizes;
@@ -236,4 +237,5 @@ fn main() {
     beyond();
     audits::all();
     sizes::all();
+    granules::all();
 }
