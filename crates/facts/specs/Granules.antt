@@ -313,12 +313,13 @@ overTo k j =
       log = logged (allOf (map (λ e. steps j e ++ (e + away) ∷ []) (k .entries)) ++ steps j (0x40090000 + bytes k - 8));
     }
 
-abbrev pub mixed : {A : Type 0} → (Grain → Grain → A) → List A
-mixed f = f g4KB g16KB ∷ f g4KB g64KB ∷ f g16KB g4KB ∷ f g16KB g64KB ∷ f g64KB g4KB ∷ f g64KB g16KB ∷ []
+abbrev pub pairs : {A : Type 0} → (Grain → Grain → A) → List (List A)
+pairs f = each (λ k. each (f k))
 
-mixed-stages : mixed over ≡ mixed overTo
+-- all nine pairs of granules
+both-stages : pairs over ≡ pairs overTo
 unfolding opened asked
-mixed-stages = refl
+both-stages = refl
 
 -- case A with a 64KB stage 1 of 25 bits, whose root is a table of level 3
 abbrev pub case-A-64KB : (at : ℕ) → Row
