@@ -76,7 +76,7 @@ impl Lists {
             let address = |low| output(descriptor, low, 0);
             match (descriptor & 3, level) {
                 (3, 0..=2) if !self.is_listed(address(root.page), level + 1) => return Err((3, at)),
-                (1, 1 | 2) if level < root.block_level => {}
+                (1, 1 | 2) if shift > root.block => {}
                 (3, 3) | (1, 1 | 2) if !self.is_granted(address(shift), 1 << shift) => return Err((4, at)),
                 _ => {}
             }
@@ -106,8 +106,8 @@ pub fn audit(q: &Question, capture: Capture, lists: &Lists) -> AuditWords {
     };
     let listed = || lists.tables.iter().zip(&lists.levels);
     let examined = lists
-        .examine(capture, &root, root.table, root.index + 1, root.level)
-        .and_then(|()| listed().try_for_each(|(table, level)| lists.examine(capture, &root, *table, 1 << root.stride, *level)));
+        .examine(capture, &root, root.table, root.index + 1, root.level(root.shift))
+        .and_then(|()| listed().try_for_each(|(table, level)| lists.examine(capture, &root, *table, root.lower_index + 1, *level)));
     match examined {
         Ok(()) => none,
         Err((number, address)) => AuditWords { number, address, ..none },

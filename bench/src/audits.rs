@@ -3,9 +3,11 @@ use crate::audit::{audit, Lists, MOST_GRANTS, MOST_TABLES};
 use crate::proved::{AuditWords, Capture, Question};
 use crate::random::Random;
 use crate::refused::ACCEPTED;
-use crate::tables::{BASE, LEAF2, PAGE, TABLE};
+use crate::tables::{BASE, LEAF2, TABLE};
 use crate::timing::{interleaved, nanoseconds};
 
+/// The bytes of a page, and of a table.
+const PAGE: u64 = 4096;
 /// Entries of each table, the root's too.
 const ENTRIES: usize = 512;
 /// All entries of an audit.

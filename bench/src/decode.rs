@@ -10,7 +10,7 @@ const SIZES: [u64; 6] = [32, 36, 40, 42, 44, 48];
 pub struct Granule {
     /// The bits of an address inside a page. A table has one page, so an index has three fewer.
     pub page: u32,
-    /// The first level that stage 2 may start at, and what PAMax must be over there. Blocks are at the levels after it, but for the last.
+    /// The first level that stage 2 may start at, and what PAMax must be over there. The largest blocks are at the level after it.
     first: u64,
     over: u64,
     /// Arm leaves the contiguous bit of the largest block open for an input size under this.
@@ -40,36 +40,41 @@ impl Granule {
         }
     }
 
-    pub fn stride(self) -> u32 {
+    fn stride(self) -> u32 {
         self.page - 3
     }
 
     /// The lowest bit of a level's index.
-    pub fn shift(self, level: u64) -> u32 {
+    fn shift(self, level: u64) -> u32 {
         self.page + self.stride() * (3 - level as u32)
-    }
-
-    /// The level of the largest block.
-    pub fn block_level(self) -> u64 {
-        self.first + 1
     }
 }
 
 /// Where a stage's table walk starts, and the sizes that it goes by.
 pub struct Root {
     pub table: u64,
-    pub level: u64,
     /// The lowest input bit of the root's index.
     pub shift: u32,
-    /// The bits of the root's index, shifted down.
+    /// The bits of the root's index, shifted down, and of the indices below it.
     pub index: u64,
+    pub lower_index: u64,
+    /// The bits of a table's address.
+    pub tables: u64,
     /// 2 to the output size.
     pub limit: u64,
     pub page: u32,
     pub stride: u32,
-    pub block_level: u64,
-    /// Whether Arm leaves a block of that level with the contiguous bit open.
+    /// The lowest input bit of an index whose entries may be the largest blocks.
+    pub block: u32,
+    /// Whether Arm leaves such a block with the contiguous bit open.
     pub contiguous_open: bool,
+}
+
+impl Root {
+    /// The level whose index has this lowest bit.
+    pub fn level(&self, shift: u32) -> u64 {
+        (3 - (shift - self.page) / self.stride) as u64
+    }
 }
 
 /// Stage 1 for one half of the input addresses: the address bits that are tested, and what they must be.
@@ -134,13 +139,14 @@ fn root(granule: Granule, base: u64, size: u64, output_size: u64, level: u64) ->
     let bits = size as u32 - shift;
     Ok(Root {
         table: address & u64::MAX << (bits + 3),
-        level,
         shift,
         index: (1 << bits) - 1,
+        lower_index: (1 << granule.stride()) - 1,
+        tables: ones(47, granule.page as u64),
         limit: 1 << output_size,
         page: granule.page,
         stride: granule.stride(),
-        block_level: granule.block_level(),
+        block: granule.shift(granule.first + 1),
         contiguous_open: size < granule.contiguous,
     })
 }

@@ -77,19 +77,19 @@ pub struct Walker<'a> {
 const ADDRESS: u64 = (1 << 48) - 1;
 
 /// The tests of a descriptor, in their order.
-fn step(descriptor: u64, level: u64, root: &Root) -> Result<Step, Cause> {
+fn step(descriptor: u64, shift: u32, root: &Root) -> Result<Step, Cause> {
     let address = descriptor & ADDRESS;
     match descriptor & 3 {
-        3 if level < 3 => {
-            return if address >= root.limit { Err(Cause::AddressSize) } else { Ok(Step::Table(address >> root.page << root.page)) };
+        3 if shift > root.page => {
+            return if address >= root.limit { Err(Cause::AddressSize) } else { Ok(Step::Table(address & root.tables)) };
         }
         3 => {}
-        1 if level == root.block_level => {
+        1 if shift == root.block => {
             if root.contiguous_open && bit(descriptor, 52) {
                 return Err(Cause::Unsettled);
             }
         }
-        1 if level == 2 => {}
+        1 if shift == root.page + root.stride => {}
         _ => return Err(Cause::Translation),
     }
     if address >= root.limit {
@@ -158,25 +158,23 @@ impl<'a> Walker<'a> {
             return Err(trail.stop(Cause::Translation, place, 0, 0));
         }
         let root = stage1.root.as_ref().map_err(|cause| trail.stop(*cause, place, 0, 0))?;
-        let (mut level, mut shift) = (root.level, root.shift);
-        let index = (1 << root.stride) - 1;
+        let mut shift = root.shift;
         let mut at = root.table + 8 * (address >> shift & root.index);
         let mut tables = 0;
         loop {
             if let Some(stage2) = &self.second {
                 at = self.stage2(stage2, address, at, Place::OnWalk, trail)?;
             }
-            let descriptor = self.read(at, trail).ok_or_else(|| trail.stop(Cause::NotCaptured, place, level, at))?;
-            match step(descriptor, level, root).map_err(|cause| trail.stop(cause, place, level, 0))? {
+            let descriptor = self.read(at, trail).ok_or_else(|| trail.stop(Cause::NotCaptured, place, root.level(shift), at))?;
+            match step(descriptor, shift, root).map_err(|cause| trail.stop(cause, place, root.level(shift), 0))? {
                 Step::Table(table) => {
                     tables |= descriptor;
-                    level += 1;
                     shift -= root.stride;
-                    at = table + 8 * (address >> shift & index);
+                    at = table + 8 * (address >> shift & root.lower_index);
                 }
                 Step::Leaf => {
-                    self.check1(stage1, address, descriptor, tables).map_err(|cause| trail.stop(cause, place, level, 0))?;
-                    trail.notes.leaf(place, descriptor, level);
+                    self.check1(stage1, address, descriptor, tables).map_err(|cause| trail.stop(cause, place, root.level(shift), 0))?;
+                    trail.notes.leaf(place, descriptor, root.level(shift));
                     return Ok(output(descriptor, shift, address));
                 }
             }
@@ -237,21 +235,19 @@ impl<'a> Walker<'a> {
             return Err(trail.stop(Cause::Translation, place, 0, ipa));
         }
         let root = stage2.root.as_ref().map_err(|cause| trail.stop(*cause, place, 0, ipa))?;
-        let (mut level, mut shift) = (root.level, root.shift);
-        let index = (1 << root.stride) - 1;
+        let mut shift = root.shift;
         let mut at = root.table + 8 * (ipa >> shift);
         loop {
-            let descriptor = self.read(at, trail).ok_or_else(|| trail.stop(Cause::NotCaptured, place, level, at))?;
-            match step(descriptor, level, root).map_err(|cause| trail.stop(cause, place, level, ipa))? {
+            let descriptor = self.read(at, trail).ok_or_else(|| trail.stop(Cause::NotCaptured, place, root.level(shift), at))?;
+            match step(descriptor, shift, root).map_err(|cause| trail.stop(cause, place, root.level(shift), ipa))? {
                 Step::Table(table) => {
-                    level += 1;
                     shift -= root.stride;
-                    at = table + 8 * (ipa >> shift & index);
+                    at = table + 8 * (ipa >> shift & root.lower_index);
                 }
                 Step::Leaf => {
                     let on_walk = place == Place::OnWalk;
-                    self.check2(stage2, address, descriptor, on_walk).map_err(|cause| trail.stop(cause, place, level, ipa))?;
-                    trail.notes.leaf(place, descriptor, level);
+                    self.check2(stage2, address, descriptor, on_walk).map_err(|cause| trail.stop(cause, place, root.level(shift), ipa))?;
+                    trail.notes.leaf(place, descriptor, root.level(shift));
                     return Ok(output(descriptor, shift, ipa));
                 }
             }
