@@ -24,8 +24,7 @@ below c =
 left : tie.Need-sub-result-2
 left c =
     let k = c .before .before .before .before in
-    let s = 64 - c .before .before .before .t0sz .result in
-    left-fits s (strideOf (k .args .k)) (k .args .k .log) _ (start (c .before)) (omega arith) (omega (arith, k .pre .most)) (k .pre .most)
+    left-fits (64 - c .before .before .before .t0sz .result) (strideOf (k .args .k)) (k .args .k .log) _ (start (c .before)) (omega arith) (omega (arith, k .pre .most)) (k .pre .most)
 
 returns : tie.Need-returns
 unfolding sizeCheck

@@ -13,6 +13,6 @@ above-spec =
     tie.close
     (tie.spec
     (λ c. search needs)
-    (λ c. rw (one-shl (c .before .args .size) (omega arith)) (pow-mono {j = 48} (omega arith)))
+    (λ c. rw (one-shl (c .before .args .size) (omega arith)) (omega (arith, pow-mono {i = c .before .args .size} {j = 48} (omega arith))))
     (λ c. rw (one-shl (c .before .args .size) (omega arith)) (search choices))
     (λ c. search choices))
