@@ -1,6 +1,7 @@
 // The access to each address of a list, with one kind, EL and size. Registers are decoded and stages prepared once.
 // The question and the batch both come here: so the access has one caller, and all of it becomes one loop when it is compiled.
 use access::Access;
+use capture::Part;
 use registers::El1;
 use registers::El2;
 use stages::both;
@@ -15,7 +16,7 @@ ghost use Prim.Native.Nat.{ℕ, _+_, _≤_, _<_, _^_};
 ghost use lib.ListN.{length, getD};
 ghost use Rattle.bits.specs.Bits.{pick, bit};
 ghost use Rattle.access.specs.Access.{listedSize};
-ghost use Rattle.capture.specs.Capture.{captured};
+ghost use Rattle.capture.specs.Calls.{captured, Held};
 ghost use Rattle.walk.specs.Ends.{passed};
 ghost use Rattle.settings.specs.Settings.{settings};
 ghost use Rattle.regime.specs.Roots.{stage1, stage2};
@@ -44,8 +45,9 @@ fn wanted(addresses: &[u64], upper: bool) -> bool
 
 // Answers each address: the number of its answer, and its output. Gives how the last access ended.
 pub fn each(
-    bytes: &[u8],
-    base: u64,
+    file: &[u8],
+    front: Part,
+    parts: &[u64],
     r: El2,
     g: El1,
     kind: u64,
@@ -56,8 +58,8 @@ pub fn each(
     numbers: &mut [u64],
     log: &mut [u64],
 ) -> Arrival
-    requires { ⌜ (settings r g ≡ 0) × (listedSize size ≡ true) × (base + length (now bytes) ≤ 2 ^ 64) × (24 ≤ length (now log)) × (length (now outputs) ≡ length (now addresses)) × (length (now numbers) ≡ length (now addresses)) ⌝ }
-    ensures { λ last. ⌜ Each (captured base (now (bytes .entry))) (stage1 r g) (stage2 r) (λ x. record { address = x; kind = kind; el = el; size = size }) (now (addresses .entry)) (now (log .entry)) last (now (outputs .exit)) (now (numbers .exit)) (now (log .exit)) ⌝ }
+    requires { ⌜ (settings r g ≡ 0) × (listedSize size ≡ true) × Held front (now parts) (now file) × (24 ≤ length (now log)) × (length (now outputs) ≡ length (now addresses)) × (length (now numbers) ≡ length (now addresses)) ⌝ }
+    ensures { λ last. ⌜ Each (captured front (now (parts .entry)) (now (file .entry))) (stage1 r g) (stage2 r) (λ x. record { address = x; kind = kind; el = el; size = size }) (now (addresses .entry)) (now (log .entry)) last (now (outputs .exit)) (now (numbers .exit)) (now (log .exit)) ⌝ }
 {
     let p = regime::prepared1(r, g, wanted(addresses, false), wanted(addresses, true));
     let q = regime::prepared2(r);
@@ -76,7 +78,7 @@ pub fn each(
             el,
             size,
         };
-        last = both::access(bytes, base, p, q, a, log);
+        last = both::access(file, front, parts, p, q, a, log);
         let end = last.end;
         let ending = end.ending;
         outputs[i] = output_of(end);

@@ -17,7 +17,8 @@ use Rattle.descriptor.specs.declared.entry.Geometry.{Geometry}
 use Rattle.reads.specs.declared.Read.{Read}
 use Rattle.bits.proofs.Tests.{by-pick, pick-true, pick-false}
 use Rattle.reads.proofs.Tally.{Tally, Tight, AllThree}
-use Rattle.capture.specs.Capture.{captured}
+use Rattle.capture.specs.Capture.{anyHigh}
+use Rattle.layout.specs.Layout.{Form, layout, captured}
 use Rattle.walk.specs.Walk.{Reading}
 use Rattle.stages.specs.Stage1.{isUpper, root1At}
 use Rattle.stages.specs.Stages.{access}
@@ -47,7 +48,7 @@ use Rattle.regime.proofs.Settings.{lower-sized, upper-sized}
 use Rattle.regime.proofs.Roots.{start1-is, start2-most, by-range, by-root1At, by-root2, Sane, root2-sane}
 use Rattle.answers.specs.Question.{grounds, refusal, turnedAway, told, askOver, ask}
 use Rattle.answers.specs.Counts.{levelsFrom, rangeLevels, n1, n2, limit, Counted, Counts}
-use Rattle.answers.proofs.Refusals.{refuse-refused, refuse-accepted, holdsFor, isSettings, none-holds}
+use Rattle.answers.proofs.Refusals.{refuse-refused, refuse-accepted, holdsFor, isSettings, isHigh, none-holds}
 
 -- ---- levels
 
@@ -154,33 +155,38 @@ counted-of : (m : Request → Read) (log : List ℕ) (p : Reading Translation) (
 unfolding told
 counted-of m log p c h = record { within = h .tally .most; exact = exact-of c (run m p) _ _ (h .tally) }
 
-module _ (base : ℕ) (bytes : List ℕ) (r : El2) (g : El1) (a : Access) (log : List ℕ) where
+module _ (form : Form) (file : List ℕ) (r : El2) (g : El1) (a : Access) (log : List ℕ) where
   abbrev m : Request → Read
-  m = captured base bytes
+  m = captured form file
 
   abbrev pub p : Reading Translation
   p = access (stage1 r g) (stage2 r) a
 
   abbrev pub why : Verdict
-  why = refusal (length log) base (length bytes) r g a
+  why = refusal (length log) form file r g a
 
   -- without a refusal the settings are accepted, and the question is the access
   accepted : why ≡ Verdict.Accepted → settings r g ≡ 0
   unfolding holdsFor pick
-  accepted e = eqb-true _ _ (not-false _ (none-holds isSettings (grounds (length log) base (length bytes) r g a) e))
+  accepted e = eqb-true _ _ (not-false _ (none-holds isSettings (grounds (length log) (layout form file .unreadable) (anyHigh (layout form file .banks)) r g a) e))
 
-  pub is-access : why ≡ Verdict.Accepted → ask base bytes r g a log ≡ told m log p
+  -- and no bank ends high
+  pub low : why ≡ Verdict.Accepted → anyHigh (layout form file .banks) ≡ false
+  unfolding holdsFor pick
+  low e = none-holds isHigh (grounds (length log) (layout form file .unreadable) (anyHigh (layout form file .banks)) r g a) e
+
+  pub is-access : why ≡ Verdict.Accepted → ask form file r g a log ≡ told m log p
   unfolding ask askOver
   is-access e = refuse-accepted _ _ _ e
 
-  pub is-refused : (w : Refusal) → why ≡ Verdict.Refused w → ask base bytes r g a log ≡ record { answer = Refused w; reads = []; log = log; ends = [] }
+  pub is-refused : (w : Refusal) → why ≡ Verdict.Refused w → ask form file r g a log ≡ record { answer = Refused w; reads = []; log = log; ends = [] }
   unfolding ask askOver turnedAway
   is-refused w e = refuse-refused _ _ _ w e
 
   tight : (k : ℕ) → HasLevels k (root2 r) → why ≡ Verdict.Accepted → Tight m (n1 r g (a .address) * suc (pick (stage2On r) k 0) + pick (stage2On r) k 0) p
   tight k levels e = access-tight m r g a k (accepted e) levels
 
-  few : (v : Verdict) → why ≡ v → length (ask base bytes r g a log .reads) ≤ 24
+  few : (v : Verdict) → why ≡ v → length (ask form file r g a log .reads) ≤ 24
   unfolding told
   few Verdict.Accepted e =
       let h = tight (levelsOf (root2 r)) (has-levels (root2 r)) e in
@@ -190,7 +196,7 @@ module _ (base : ℕ) (bytes : List ℕ) (r : El2) (g : El1) (a : Access) (log :
       rw (ap (λ t. t .reads) (is-access e)) (omega (arith, h .tally .most, rw add-one at bound))
   few (Verdict.Refused w) e = rw (ap (λ t. t .reads) (is-refused w e)) (omega arith)
 
-  pub counts : Counts base bytes r g a log
+  pub counts : Counts form file r g a log
   unfolding told
   counts =
       record {

@@ -3,14 +3,14 @@
 use mathlib.Core.Path.{_≡_, refl, sym, ap}
 use mathlib.Core.Bool.{Bool, true, false, true≢false, _&&_}
 use mathlib.Core.List.{List, [], _∷_}
-use Prim.Native.Nat.{ℕ, _+_, _^_, _≤_}
+use Prim.Native.Nat.{ℕ}
 use native.Mathlib.Omega.{arith}
-use borrow.Author.Tests.{eqb-true, ltb-false, not-false}
+use borrow.Author.Tests.{eqb-true, not-false}
 use lib.Dec.{leb}
 use Rattle.bits.specs.Bits.{pick}
 use Rattle.bits.proofs.Tests.{by-pick}
 use Rattle.answers.specs.declared.Refusal.{Refusal}
-use Rattle.answers.specs.declared.Refusal.the-variants.{ShortLog, HighCapture, Settings, Unlisted, BatchLists, AuditLists, NoRoot}
+use Rattle.answers.specs.declared.Refusal.the-variants.{ShortLog, HighCapture, Settings, Unlisted, BatchLists, AuditLists, NoRoot, CoreFile}
 use Rattle.answers.specs.declared.Verdict.the-variants.{Accepted, Refused}
 use Rattle.registers.specs.declared.El1.{El1}
 use Rattle.registers.specs.declared.El2.{El2}
@@ -63,8 +63,9 @@ isSettings Unlisted = false
 isSettings BatchLists = false
 isSettings AuditLists = false
 isSettings NoRoot = false
+isSettings CoreFile = false
 
-abbrev isHigh : Refusal → Bool
+abbrev pub isHigh : Refusal → Bool
 isHigh ShortLog = false
 isHigh HighCapture = true
 isHigh (Settings item) = false
@@ -72,6 +73,7 @@ isHigh Unlisted = false
 isHigh BatchLists = false
 isHigh AuditLists = false
 isHigh NoRoot = false
+isHigh CoreFile = false
 
 abbrev isUnlisted : Refusal → Bool
 isUnlisted ShortLog = false
@@ -81,6 +83,7 @@ isUnlisted Unlisted = true
 isUnlisted BatchLists = false
 isUnlisted AuditLists = false
 isUnlisted NoRoot = false
+isUnlisted CoreFile = false
 
 abbrev pub isNoRoot : Refusal → Bool
 isNoRoot ShortLog = false
@@ -90,6 +93,7 @@ isNoRoot Unlisted = false
 isNoRoot BatchLists = false
 isNoRoot AuditLists = false
 isNoRoot NoRoot = true
+isNoRoot CoreFile = false
 
 -- an accepted call meets no ground
 pub none-holds : (f : Refusal → Bool) (l : List Ground) → verdict l ≡ Accepted → holdsFor f l ≡ false
@@ -110,18 +114,18 @@ last-holds true false c e = absurd (true≢false (sym e))
 last-holds false b c e = absurd (true≢false (sym e))
 
 -- where what a question and a batch share does not refuse
-module _ (base length : ℕ) (r : El2) (g : El1) (kind el size : ℕ) (accepted : verdict (shared base length r g kind el size) ≡ Accepted) where
+module _ (high : Bool) (r : El2) (g : El1) (kind el size : ℕ) (accepted : verdict (shared high r g kind el size) ≡ Accepted) where
   -- the settings are accepted
   pub accepted-settings : settings r g ≡ 0
   unfolding holdsFor pick
-  accepted-settings = eqb-true _ _ (not-false _ (none-holds isSettings (shared base length r g kind el size) accepted))
+  accepted-settings = eqb-true _ _ (not-false _ (none-holds isSettings (shared high r g kind el size) accepted))
 
-  -- the capture ends below 2^64
-  pub accepted-capture : base + length ≤ 2 ^ 64
+  -- no bank ends high
+  pub accepted-capture : high ≡ false
   unfolding holdsFor pick
-  accepted-capture = omega (arith, ltb-false (2 ^ 48) (base + length) (none-holds isHigh (shared base length r g kind el size) accepted))
+  accepted-capture = none-holds isHigh (shared high r g kind el size) accepted
 
   -- the size is listed
   pub accepted-size : listedSize size ≡ true
   unfolding holdsFor pick
-  accepted-size = last-holds (leb kind 2) (leb el 1) (listedSize size) (not-false _ (none-holds isUnlisted (shared base length r g kind el size) accepted))
+  accepted-size = last-holds (leb kind 2) (leb el 1) (listedSize size) (not-false _ (none-holds isUnlisted (shared high r g kind el size) accepted))

@@ -10,7 +10,7 @@ use Rattle.attributes.specs.declared.Attributes.{Attributes}
 use Rattle.walk.specs.declared.stop.Stage.{Stage}
 use Rattle.walk.specs.declared.stop.Stage.the-variants.{One, Two}
 use Rattle.answers.specs.declared.Refusal.{Refusal}
-use Rattle.answers.specs.declared.Refusal.the-variants.{ShortLog, HighCapture, Settings, Unlisted, BatchLists, AuditLists, NoRoot}
+use Rattle.answers.specs.declared.Refusal.the-variants.{ShortLog, HighCapture, Settings, Unlisted, BatchLists, AuditLists, NoRoot, CoreFile}
 use Rattle.walk.specs.declared.stop.Stop.{Stop}
 use Rattle.walk.specs.declared.stop.Stop.the-variants as S
 use Rattle.walk.specs.declared.end.Ending.{Ending}
@@ -43,6 +43,7 @@ refusalNumber Unlisted = 13
 refusalNumber BatchLists = 14
 refusalNumber AuditLists = 15
 refusalNumber NoRoot = 16
+refusalNumber CoreFile = 17
 
 unfoldable pub number : Answer → ℕ
 number (A.Translated t n) = 0
@@ -98,6 +99,7 @@ itemOf Unlisted = []
 itemOf BatchLists = []
 itemOf AuditLists = []
 itemOf NoRoot = []
+itemOf CoreFile = []
 
 -- the table's last column
 unfoldable pub carries : Answer → List Value

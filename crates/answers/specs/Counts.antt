@@ -9,6 +9,7 @@ use lib.ListN.{length}
 use Rattle.bits.specs.Bits.{pick}
 use Rattle.reads.specs.Program.{All}
 use Rattle.access.specs.declared.Access.{Access}
+use Rattle.layout.specs.Layout.{Form}
 use Rattle.stages.specs.Stage1.{isUpper}
 use Rattle.answers.specs.declared.Refusal.{Refusal}
 use Rattle.answers.specs.declared.Verdict.the-variants as Verdict
@@ -57,14 +58,14 @@ pub record Counted (most : ℕ) (t : Told) : Type 0 where
   pub exact : (to : Translation) (n : ℕ) → t .answer ≡ Translated to n → (length (t .reads) ≡ most → AllAt3 (t .ends)) × (AllAt3 (t .ends) → length (t .reads) ≡ most)
 
 -- every question that is not refused, with stage 2 on and its start at level 0 to 3
-pub record Counts (base : ℕ) (bytes : List ℕ) (r : El2) (g : El1) (a : Access) (log : List ℕ) : Type 0 where
-  pub counted : stage2On r ≡ true → (l : ℕ) → startLevel2 r ≡ pos l → refusal (length log) base (length bytes) r g a ≡ Verdict.Accepted →
-      Counted (limit r g (a .address)) (ask base bytes r g a log) × (limit r g (a .address) ≤ 24)
+pub record Counts (form : Form) (file : List ℕ) (r : El2) (g : El1) (a : Access) (log : List ℕ) : Type 0 where
+  pub counted : stage2On r ≡ true → (l : ℕ) → startLevel2 r ≡ pos l → refusal (length log) form file r g a ≡ Verdict.Accepted →
+      Counted (limit r g (a .address)) (ask form file r g a log) × (limit r g (a .address) ≤ 24)
   -- with stage 2 off, stage 1's own
-  pub alone : stage2On r ≡ false → refusal (length log) base (length bytes) r g a ≡ Verdict.Accepted →
-      (length (ask base bytes r g a log .reads) ≤ n1 r g (a .address)) × (n1 r g (a .address) ≤ 4)
+  pub alone : stage2On r ≡ false → refusal (length log) form file r g a ≡ Verdict.Accepted →
+      (length (ask form file r g a log .reads) ≤ n1 r g (a .address)) × (n1 r g (a .address) ≤ 4)
   -- a refused question reads nothing, and keeps the log
-  pub refused : (why : Refusal) → refusal (length log) base (length bytes) r g a ≡ Verdict.Refused why →
-      ask base bytes r g a log ≡ record { answer = Refused why; reads = []; log = log; ends = [] }
+  pub refused : (why : Refusal) → refusal (length log) form file r g a ≡ Verdict.Refused why →
+      ask form file r g a log ≡ record { answer = Refused why; reads = []; log = log; ends = [] }
   -- so a log of 24 words always suffices
-  pub suffices : length (ask base bytes r g a log .reads) ≤ 24
+  pub suffices : length (ask form file r g a log .reads) ≤ 24

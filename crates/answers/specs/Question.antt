@@ -1,6 +1,7 @@
 -- The question: its answer, its log, and the level at which each walk ended.
 -- Assumes nothing.
 use mathlib.Core.Path.{_≡_}
+use mathlib.Core.Bool.{Bool}
 use mathlib.Core.List.{List, [], _∷_, map}
 use Prim.Native.Nat.{ℕ}
 use lib.ListN.{length}
@@ -8,7 +9,8 @@ use lib.Seq.{sets}
 use Rattle.reads.specs.Program.{Request, run, reads, ends}
 use Rattle.reads.specs.declared.Read.{Read}
 use Rattle.access.specs.declared.Access.{Access}
-use Rattle.capture.specs.Capture.{captured}
+use Rattle.capture.specs.Capture.{anyHigh}
+use Rattle.layout.specs.Layout.{Form, layout, captured}
 use Rattle.walk.specs.Walk.{Reading}
 use Rattle.stages.specs.Stages.{access}
 use Rattle.stages.specs.declared.both.Translation.{Translation}
@@ -20,15 +22,19 @@ use Rattle.answers.specs.declared.Verdict.{Verdict}
 use Rattle.answers.specs.declared.Answer.{Answer}
 use Rattle.answers.specs.declared.Answer.the-variants.{Refused}
 use Rattle.answers.specs.Answers.{answer}
-use Rattle.answers.specs.Refusals.{Ground, refuse, verdict, shortLog, shared}
+use Rattle.answers.specs.Refusals.{Ground, refuse, verdict, coreFile, shortLog, shared}
 
--- 10 to 13, in their order
-abbrev pub grounds : (words base length : ℕ) → El2 → El1 → Access → List Ground
-grounds words base length r g a = shortLog words ∷ shared base length r g (a .kind) (a .el) (a .size)
+-- 17, and 10 to 13, in their order
+abbrev pub grounds : (words : ℕ) (unreadable high : Bool) → El2 → El1 → Access → List Ground
+grounds words unreadable high r g a = coreFile unreadable ∷ shortLog words ∷ shared high r g (a .kind) (a .el) (a .size)
 
--- whether a question with a log of so many words over a capture of length bytes at base is refused
-abbrev pub refusal : (words base length : ℕ) → El2 → El1 → Access → Verdict
-refusal words base length r g a = verdict (grounds words base length r g a)
+-- whether a question with a log of so many words over a file is refused
+abbrev pub refusal : (words : ℕ) → Form → (file : List ℕ) → El2 → El1 → Access → Verdict
+refusal words form file r g a = verdict (grounds words (layout form file .unreadable) (anyHigh (layout form file .banks)) r g a)
+
+-- what a question and a batch over a file are refused for alike
+abbrev pub common : Form → (file : List ℕ) → El2 → El1 → (kind el size : ℕ) → List Ground
+common form file r g kind el size = coreFile (layout form file .unreadable) ∷ shared (anyHigh (layout form file .banks)) r g kind el size
 
 -- what a question gives: its answer, the descriptors read in order, the log afterwards, and the level at which each walk ended
 pub record Told : Type 0 where
@@ -51,14 +57,14 @@ told m log p =
 unfoldable pub turnedAway : (log : List ℕ) → Refusal → Told
 turnedAway log why = record { answer = Refused why; reads = []; log = log; ends = [] }
 
--- the question over a memory, that of a capture of so many bytes at base
-unfoldable pub askOver : (Request → Read) → (base size : ℕ) → El2 → El1 → Access → (log : List ℕ) → Told
-askOver m base size r g a log =
-    refuse (turnedAway log) (grounds (length log) base size r g a) (told m log (access (stage1 r g) (stage2 r) a))
+-- the question over a memory, that of a file that may be unreadable or have a bank that ends too high
+unfoldable pub askOver : (Request → Read) → (unreadable high : Bool) → El2 → El1 → Access → (log : List ℕ) → Told
+askOver m unreadable high r g a log =
+    refuse (turnedAway log) (grounds (length log) unreadable high r g a) (told m log (access (stage1 r g) (stage2 r) a))
 
--- the question over the bytes of a capture, with a lent log
-unfoldable pub ask : (base : ℕ) (bytes : List ℕ) → El2 → El1 → Access → (log : List ℕ) → Told
-ask base bytes = askOver (captured base bytes) base (length bytes)
+-- the question over a file, with a lent log
+unfoldable pub ask : Form → (file : List ℕ) → El2 → El1 → Access → (log : List ℕ) → Told
+ask form file = askOver (captured form file) (layout form file .unreadable) (anyHigh (layout form file .banks))
 
 -- a call that gave what a question gives: its answer, and the log's words afterwards
 pub record Tells (t : Told) (answer : Answer) (log : List ℕ) : Type 0 where

@@ -6,12 +6,11 @@ use Prim.Native.Nat.{ℕ}
 use lib.Dec.{ltb, eqb}
 use Rattle.bits.specs.Bits.{pick}
 use Rattle.access.specs.Access.{listed}
-use Rattle.capture.specs.Capture.{endsHigh}
 use Rattle.registers.specs.declared.El1.{El1}
 use Rattle.registers.specs.declared.El2.{El2}
 use Rattle.settings.specs.Settings.{settings}
 use Rattle.answers.specs.declared.Refusal.{Refusal}
-use Rattle.answers.specs.declared.Refusal.the-variants.{ShortLog, HighCapture, Settings, Unlisted}
+use Rattle.answers.specs.declared.Refusal.the-variants.{ShortLog, HighCapture, Settings, Unlisted, CoreFile}
 use Rattle.answers.specs.declared.Verdict.{Verdict}
 use Rattle.answers.specs.declared.Verdict.the-variants as Verdict
 
@@ -36,9 +35,13 @@ logWords = 24
 abbrev pub shortLog : (words : ℕ) → Ground
 shortLog words = record { holds = ltb words logWords; refusal = ShortLog }
 
+-- 17, before all others (02, §1)
+abbrev pub coreFile : (unreadable : Bool) → Ground
+coreFile unreadable = record { holds = unreadable; refusal = CoreFile }
+
 -- 11
-abbrev pub highCapture : (base length : ℕ) → Ground
-highCapture base length = record { holds = endsHigh base length; refusal = HighCapture }
+abbrev pub highCapture : (high : Bool) → Ground
+highCapture high = record { holds = high; refusal = HighCapture }
 
 -- 12, with the first failing item, 0 if none fails
 abbrev pub failing : (item : ℕ) → Ground
@@ -49,5 +52,5 @@ abbrev pub unlisted : (kind el size : ℕ) → Ground
 unlisted kind el size = record { holds = not (listed kind el size); refusal = Unlisted }
 
 -- what a question and a batch are refused for alike: 11, 12, 13
-abbrev pub shared : (base length : ℕ) → El2 → El1 → (kind el size : ℕ) → List Ground
-shared base length r g kind el size = highCapture base length ∷ failing (settings r g) ∷ unlisted kind el size ∷ []
+abbrev pub shared : (high : Bool) → El2 → El1 → (kind el size : ℕ) → List Ground
+shared high r g kind el size = highCapture high ∷ failing (settings r g) ∷ unlisted kind el size ∷ []

@@ -24,6 +24,7 @@ pub enum Refusal {
     BatchLists,
     AuditLists,
     NoRoot,
+    CoreFile,
 }
 
 // Whether a call is refused, and why.
@@ -43,18 +44,10 @@ pub enum Answer {
 }
 
 // What a question and a batch are refused for alike, in its order. The call's own lists come before.
-pub fn shared_verdict(
-    base: u64,
-    length: u64,
-    r: El2,
-    g: El1,
-    kind: u64,
-    el: u64,
-    size: u64,
-) -> Verdict
-    ensures { λ v. ⌜ v ≡ Refusals.verdict (Refusals.shared base length r g kind el size) ⌝ }
+pub fn shared_verdict(high: bool, r: El2, g: El1, kind: u64, el: u64, size: u64) -> Verdict
+    ensures { λ v. ⌜ v ≡ Refusals.verdict (Refusals.shared high r g kind el size) ⌝ }
 {
-    if capture::ends_high(base, length) {
+    if high {
         return Verdict::Refused(Refusal::HighCapture);
     }
     let item = settings::of_question(r, g);
@@ -105,6 +98,7 @@ pub fn refusal_number(r: Refusal) -> u64
         Refusal::BatchLists => 14,
         Refusal::AuditLists => 15,
         Refusal::NoRoot => 16,
+        Refusal::CoreFile => 17,
     }
 }
 

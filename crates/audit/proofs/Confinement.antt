@@ -1,7 +1,7 @@
 -- After a clean audit every question is confined.
 -- Assumes nothing.
 use mathlib.Core.Path.{_≡_, refl, sym, subst, _∙_}
-use mathlib.Core.Bool.{true}
+use mathlib.Core.Bool.{Bool, true, false}
 use mathlib.Core.List.{List}
 use Prim.Native.Nat.{ℕ, _-_, _*_, _%_, _^_}
 use native.Mathlib.Omega.{arith}
@@ -11,7 +11,8 @@ use Rattle.reads.specs.Program.{Request, Outcome, reached, stopped, run, reads,
 use Rattle.access.specs.declared.Access.{Access}
 use Rattle.reads.specs.declared.Read.{Read}
 use Rattle.reads.proofs.Holds.{OnOutcome, Holds, holds-reads, holds-run}
-use Rattle.capture.specs.Capture.{captured}
+use Rattle.capture.specs.Capture.{anyHigh}
+use Rattle.layout.specs.Layout.{Form, layout, captured, SameBounds}
 use Rattle.answers.specs.Answers.{answer}
 use Rattle.answers.specs.declared.Refusal.{Refusal}
 use Rattle.walk.specs.declared.stop.Stop.{Stop}
@@ -32,7 +33,7 @@ use Rattle.answers.specs.declared.Verdict.{Verdict}
 use Rattle.answers.specs.declared.Verdict.the-variants as Verdict
 use Rattle.answers.specs.Question.{turnedAway, told, askOver, ask}
 use Rattle.bits.specs.Bits.{pick}
-use Rattle.answers.proofs.Refusals.{refuse-refused, refuse-accepted, by-refuse, holdsFor, isNoRoot, none-holds}
+use Rattle.answers.proofs.Refusals.{refuse-refused, refuse-accepted, by-refuse, holdsFor, isHigh, isNoRoot, none-holds}
 use Rattle.lists.specs.Lists.{zip}
 use Rattle.audit.specs.Audit.{auditFrom, auditGrounds, auditOver, audit}
 use Rattle.audit.specs.Confinement.{InFrame, Audited, the-root, listed, InTables, ReadIn, MissingIn, AnswerIn, SameTables, Confined, Confinement}
@@ -71,17 +72,17 @@ answer-in grants n (stopped (S.Misaligned s)) h = tt
 answer-in grants n (stopped (S.Absent m)) h = h
 answer-in grants n (stopped (S.Unsettled o)) h = tt
 
--- ---- two captures
+-- ---- two files
 
-module _ (base : ℕ) (bytes bytes′ : List ℕ) (bounds : length bytes ≡ length bytes′) (r : El2) (grants tables : List (ℕ × ℕ)) where
+module _ (form : Form) (file file′ : List ℕ) (bounds : SameBounds form file file′) (low′ : anyHigh (layout form file .banks) ≡ false) (r : El2) (grants tables : List (ℕ × ℕ)) where
   abbrev m : Request → Read
-  m = captured base bytes
+  m = captured form file
 
   abbrev m′ : Request → Read
-  m′ = captured base bytes′
+  m′ = captured form file′
 
   module _ (root : Table) (rooted : root2 r ≡ Usable root) (sane : Sane (Usable root)) (clean : auditFrom m grants tables (Usable root) ≡ Clean)
-      (same : SameTables base bytes bytes′ (root2 r) tables) (on : stage2On r ≡ true) where
+      (same : SameTables form file file′ (root2 r) tables) (on : stage2On r ≡ true) where
     abbrev T : ℕ → ℕ → ℕ → Type 0
     T = Tables root tables
 
@@ -113,7 +114,7 @@ module _ (base : ℕ) (bytes bytes′ : List ℕ) (bounds : length bytes ≡ len
           top = top;
           says = λ n j table i x t less e.
               entry-says m grants tables root (sane .0) (sane .1) (clean-left _ _ clean) (clean-right _ _ clean) n j table i x t less
-              (same-entry base bytes bytes′ bounds j table (same _ _ (audited t)) i less ∙ e);
+              (same-entry form file file′ bounds low′ j table (same _ _ (audited t)) i less ∙ e);
           lies = lies;
         }
 
@@ -128,7 +129,7 @@ module _ (base : ℕ) (bytes bytes′ : List ℕ) (bounds : length bytes ≡ len
       landed (stopped e) h = h
 
       -- a refused question reads nothing
-      pub confined-by : (log : List ℕ) → Confined (root2 r) grants tables (ask base bytes′ r g a log)
+      pub confined-by : (log : List ℕ) → Confined (root2 r) grants tables (ask form file′ r g a log)
       unfolding ask askOver turnedAway told
       confined-by log =
           by-refuse (Confined (root2 r) grants tables) _ _ _ (λ why. record { reads = nil; answer = tt })
@@ -136,23 +137,28 @@ module _ (base : ℕ) (bytes bytes′ : List ℕ) (bounds : length bytes ≡ len
 
   -- a clean audit has a usable root
   by-root : (root : Root) → root2 r ≡ root → Sane root → auditFrom m grants tables root ≡ Clean →
-      SameTables base bytes bytes′ (root2 r) tables → stage2On r ≡ true →
-      (g : El1) (a : Access) (log : List ℕ) → Confined (root2 r) grants tables (ask base bytes′ r g a log)
+      SameTables form file file′ (root2 r) tables → stage2On r ≡ true →
+      (g : El1) (a : Access) (log : List ℕ) → Confined (root2 r) grants tables (ask form file′ r g a log)
   unfolding auditFrom
   by-root (Unusable kind level) e sane clean same on g a log = not-clean _ clean
   by-root (Usable t) e sane clean same on g a log = confined-by t e sane clean same on g a log
 
 -- stage 2 is on where the audit is not refused
-stage2-on : (base size : ℕ) (r : El2) (grants counts tables levels : List ℕ) → verdict (auditGrounds base size r grants counts tables levels) ≡ Verdict.Accepted → stage2On r ≡ true
+stage2-on : (unreadable high : Bool) (r : El2) (grants counts tables levels : List ℕ) → verdict (auditGrounds unreadable high r grants counts tables levels) ≡ Verdict.Accepted → stage2On r ≡ true
 unfolding holdsFor pick
-stage2-on base size r grants counts tables levels e = not-false _ (none-holds isNoRoot (auditGrounds base size r grants counts tables levels) e)
+stage2-on unreadable high r grants counts tables levels e = not-false _ (none-holds isNoRoot (auditGrounds unreadable high r grants counts tables levels) e)
 
-pub confinement : (base : ℕ) (bytes bytes′ : List ℕ) (r : El2) (grants counts tables levels : List ℕ) → Confinement base bytes bytes′ r grants counts tables levels
+-- and no bank ends high
+ends-low : (unreadable high : Bool) (r : El2) (grants counts tables levels : List ℕ) → verdict (auditGrounds unreadable high r grants counts tables levels) ≡ Verdict.Accepted → high ≡ false
+unfolding holdsFor pick
+ends-low unreadable high r grants counts tables levels e = none-holds isHigh (auditGrounds unreadable high r grants counts tables levels) e
+
+pub confinement : (form : Form) (file file′ : List ℕ) (r : El2) (grants counts tables levels : List ℕ) → Confinement form file file′ r grants counts tables levels
 unfolding audit auditOver
-confinement base bytes bytes′ r grants counts tables levels =
+confinement form file file′ r grants counts tables levels =
     record {
       confined = λ clean bounds same g a log.
           let accepted = unrefused _ _ clean in
-          by-root base bytes bytes′ bounds r (zip grants counts) (zip tables levels) (root2 r) refl (root2-sane r)
-          (sym (refuse-accepted Refused _ _ accepted) ∙ clean) same (stage2-on base (length bytes) r grants counts tables levels accepted) g a log;
+          by-root form file file′ bounds (ends-low _ _ r grants counts tables levels accepted) r (zip grants counts) (zip tables levels) (root2 r) refl (root2-sane r)
+          (sym (refuse-accepted Refused _ _ accepted) ∙ clean) same (stage2-on _ _ r grants counts tables levels accepted) g a log;
     }

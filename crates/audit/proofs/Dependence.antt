@@ -1,16 +1,21 @@
 -- Where every read of an audited table's entry is the same, so is the audit.
 -- Assumes nothing.
-use mathlib.Core.Path.{_≡_, refl, sym, subst, ap, ap₂}
-use mathlib.Core.Bool.{true, or-true}
+use mathlib.Core.Path.{_≡_, refl, sym, subst, ap, ap₂, _∙_}
+use mathlib.Core.Bool.{Bool, true, false, or-true}
 use mathlib.Core.List.{List, [], _∷_}
 use Prim.Native.Nat.{ℕ, zero, suc, _+_, _-_, _*_, _^_, _<_}
 use native.Mathlib.Omega.{arith}
 use lib.ListN.{length, getD}
 use borrow.Author.Tests.{eq-eqb}
+use Rattle.bits.specs.Bits.{pick}
 use Rattle.reads.specs.Program.{Request}
+use Rattle.reads.proofs.Laws.{all-map}
 use Rattle.reads.specs.declared.Read.{Read}
 use Rattle.descriptor.specs.declared.entry.Geometry.{Geometry}
-use Rattle.capture.specs.Capture.{captured, SameBytes}
+use Rattle.capture.specs.Capture.{anyHigh, memory, SameBytes}
+use Rattle.layout.specs.Layout.{Form, layout, partsOf, captured, SameBounds}
+use Rattle.layout.proofs.Bounds.{same-parts}
+use Rattle.layout.proofs.Parts.{all-inside}
 use Rattle.capture.proofs.Bytewise.{same-word}
 use Rattle.walk.specs.declared.table.Root.{Root}
 use Rattle.walk.specs.declared.table.Root.the-variants.{Unusable, Usable}
@@ -63,31 +68,41 @@ module _ (m m′ : Request → Read) (g : Geometry) (grants tables : List (ℕ �
       ap₂ orElse (same-table (3 - t .1) (g .stride) (t .0) (same (t .0) (t .1) (listed-here t l)))
       (same-listed l (λ table level h. same table level (listed-on t l table level h)))
 
--- ---- over two captures
+-- ---- over two files
 
-module _ (base : ℕ) (bytes bytes′ : List ℕ) (bounds : length bytes ≡ length bytes′) where
+module _ (form : Form) (file file′ : List ℕ) (bounds : SameBounds form file file′) (low : anyHigh (layout form file .banks) ≡ false) where
   -- an entry of a table with the same bytes
-  pub same-entry : (j table : ℕ) → SameBytes base bytes bytes′ table (8 * 2 ^ j) → (i : ℕ) → i < 2 ^ j →
-      captured base bytes (stage2Read (table + 8 * i)) ≡ captured base bytes′ (stage2Read (table + 8 * i))
+  pub same-entry : (j table : ℕ) → SameBytes (partsOf form file) file file′ table (8 * 2 ^ j) → (i : ℕ) → i < 2 ^ j →
+      captured form file (stage2Read (table + 8 * i)) ≡ captured form file′ (stage2Read (table + 8 * i))
   same-entry j table same i less =
-      sym (same-word base bytes bytes′ bounds (stage2Read (table + 8 * i))
-      (λ k h from to.
+      sym (same-word file file′ (bounds .length) (partsOf form file) (all-inside (length file) (layout form file .banks) low) (stage2Read (table + 8 * i))
+      (all-map
+      (λ p h k inside from to.
       let at : table + (8 * i + k) ≡ table + 8 * i + k = omega arith in
-      subst (λ z. getD bytes′ (z - base) 0 ≡ getD bytes (z - base) 0) at (same (8 * i + k) (omega arith) (omega arith) (omega arith))))
+      subst (λ z. getD file′ (p .from + (z - p .address)) 0 ≡ getD file (p .from + (z - p .address)) 0) at (h (8 * i + k) (omega arith) (omega arith) (omega arith)))
+      same))
+      ∙ ap (λ l. memory l file′ (stage2Read (table + 8 * i))) (same-parts form file file′ bounds)
 
-  same-from : (grants tables : List (ℕ × ℕ)) (root : Root) → SameTables base bytes bytes′ root tables →
-      auditFrom (captured base bytes) grants tables root ≡ auditFrom (captured base bytes′) grants tables root
+  same-from : (grants tables : List (ℕ × ℕ)) (root : Root) → SameTables form file file′ root tables →
+      auditFrom (captured form file) grants tables root ≡ auditFrom (captured form file′) grants tables root
   unfolding auditFrom
   same-from grants tables (Unusable kind level) same = refl
   same-from grants tables (Usable t) same =
       ap₂ orElse (same-table _ _ (t .geometry) grants tables (t .levels - 1) (t .bits) (t .base) (same-entry (t .bits) (t .base) (same _ _ (the-root refl))))
       (same-listed _ _ (t .geometry) grants tables tables (λ table level h. same-entry (t .geometry .stride) table (same _ _ (listed refl level h))))
 
-pub dependence : (base : ℕ) (bytes bytes′ : List ℕ) (r : El2) (grants counts tables levels : List ℕ) → Dependence base bytes bytes′ r grants counts tables levels
+-- where a bank ends high the tables do not count
+by-high : (unreadable high : Bool) (r : El2) (grants counts tables levels : List ℕ) (x y : AuditAnswer) → (high ≡ false → x ≡ y) →
+    refuse Refused (auditGrounds unreadable high r grants counts tables levels) x ≡ refuse Refused (auditGrounds unreadable high r grants counts tables levels) y
+unfolding refuse pick
+by-high unreadable true r grants counts tables levels x y e = refl
+by-high unreadable false r grants counts tables levels x y e = ap (refuse Refused (auditGrounds unreadable false r grants counts tables levels)) (e refl)
+
+pub dependence : (form : Form) (file file′ : List ℕ) (r : El2) (grants counts tables levels : List ℕ) → Dependence form file file′ r grants counts tables levels
 unfolding audit auditOver
-dependence base bytes bytes′ r grants counts tables levels =
+dependence form file file′ r grants counts tables levels =
     record {
       depends = λ bounds same.
-          ap₂ (λ n x. refuse Refused (auditGrounds base n r grants counts tables levels) x) bounds
-          (same-from base bytes bytes′ bounds (zip grants counts) (zip tables levels) (root2 r) same);
+          by-high _ _ r grants counts tables levels _ _ (λ low. same-from form file file′ bounds low (zip grants counts) (zip tables levels) (root2 r) same)
+          ∙ ap (λ l. refuse Refused (auditGrounds (l .unreadable) (anyHigh (l .banks)) r grants counts tables levels) (auditFrom (captured form file′) (zip grants counts) (zip tables levels) (root2 r))) (bounds .layout);
     }

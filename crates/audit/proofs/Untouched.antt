@@ -8,7 +8,7 @@ use Rattle.bits.specs.Bits.{pick}
 use Rattle.reads.specs.Program.{Request}
 use Rattle.reads.specs.declared.Read.{Read}
 use Rattle.descriptor.specs.declared.entry.Geometry.{Geometry}
-use Rattle.capture.specs.Capture.{captured}
+use Rattle.layout.specs.Layout.{Form, captured}
 use Rattle.walk.specs.declared.table.Root.{Root}
 use Rattle.regime.specs.Roots.{root2}
 use Rattle.registers.specs.declared.El2.{El2}
@@ -42,10 +42,10 @@ module _ (m : Request → Read) (grants tables : List (ℕ × ℕ)) where
       table-untouched _ (3 - level) (t .geometry .stride) table
       (listed-clean m grants tables t tables table level h (clean-right _ _ (subst (λ z. auditFrom m grants tables z ≡ Clean) e clean)))
 
-pub untouched : (base : ℕ) (bytes : List ℕ) (r : El2) (grants counts tables levels : List ℕ) → Untouched base bytes r grants counts tables levels
+pub untouched : (form : Form) (file : List ℕ) (r : El2) (grants counts tables levels : List ℕ) → Untouched form file r grants counts tables levels
 unfolding audit auditOver
-untouched base bytes r grants counts tables levels =
+untouched form file r grants counts tables levels =
     record {
       untouched = λ clean table size.
-          untouched-from (captured base bytes) (zip grants counts) (zip tables levels) (root2 r) table size (sym (refuse-accepted Refused _ _ (unrefused _ _ clean)) ∙ clean);
+          untouched-from (captured form file) (zip grants counts) (zip tables levels) (root2 r) table size (sym (refuse-accepted Refused _ _ (unrefused _ _ clean)) ∙ clean);
     }

@@ -1,6 +1,6 @@
 -- The audit of stage 2's tables against the granted frames (01, The audit).
 -- Assumes nothing.
-use mathlib.Core.Bool.{not}
+use mathlib.Core.Bool.{Bool, not}
 use mathlib.Core.List.{List, [], _∷_}
 use Prim.Native.Nat.{ℕ, zero, suc, _+_, _-_, _*_, _^_}
 use lib.ListN.{length}
@@ -12,7 +12,8 @@ use Rattle.reads.specs.declared.Read.the-variants.{Absent, Word}
 use Rattle.descriptor.specs.declared.entry.Geometry.{Geometry}
 use Rattle.descriptor.specs.declared.entry.DescriptorType.{DescriptorType}
 use Rattle.descriptor.specs.declared.entry.DescriptorType.the-variants as DescriptorType
-use Rattle.capture.specs.Capture.{captured}
+use Rattle.capture.specs.Capture.{anyHigh}
+use Rattle.layout.specs.Layout.{Form, layout, captured}
 use Rattle.answers.specs.declared.Refusal.the-variants.{AuditLists, NoRoot}
 use Rattle.walk.specs.declared.table.Root.{Root}
 use Rattle.walk.specs.declared.table.Root.the-variants.{Unusable, Usable}
@@ -21,7 +22,7 @@ use Rattle.settings.specs.Settings.{stage2On, auditSettings}
 use Rattle.regime.specs.Roots.{tableSize, root2}
 use Rattle.registers.specs.declared.El2.{El2}
 use Rattle.answers.specs.Answers.{refusalNumber, itemOf}
-use Rattle.answers.specs.Refusals.{Ground, refuse, highCapture, failing}
+use Rattle.answers.specs.Refusals.{Ground, refuse, coreFile, highCapture, failing}
 use Rattle.lists.specs.Lists.{zip, wellFormed}
 use Rattle.lists.specs.Search.{granted, touches, isListed}
 use Rattle.audit.specs.declared.FindingKind.{FindingKind}
@@ -110,20 +111,21 @@ auditFrom m grants tables (Usable t) =
 
 -- ---- the audit
 
--- 11, 12, 15, 16 in their order; 16 for a root that faults every IPA is `auditFrom`'s
-abbrev pub auditGrounds : (base size : ℕ) → El2 → (grants counts tables levels : List ℕ) → List Ground
-auditGrounds base size r grants counts tables levels =
-    highCapture base size
+-- 17, 11, 12, 15, 16 in their order; 16 for a root that faults every IPA is `auditFrom`'s
+abbrev pub auditGrounds : (unreadable high : Bool) → El2 → (grants counts tables levels : List ℕ) → List Ground
+auditGrounds unreadable high r grants counts tables levels =
+    coreFile unreadable
+    ∷ highCapture high
     ∷ failing (auditSettings r)
     ∷ record { holds = not (wellFormed (tableSize r) grants counts tables levels); refusal = AuditLists }
     ∷ record { holds = not (stage2On r); refusal = NoRoot }
     ∷ []
 
-unfoldable pub auditOver : (Request → Read) → (base size : ℕ) → El2 → (grants counts tables levels : List ℕ) → AuditAnswer
-auditOver m base size r grants counts tables levels =
-    refuse Refused (auditGrounds base size r grants counts tables levels)
+unfoldable pub auditOver : (Request → Read) → (unreadable high : Bool) → El2 → (grants counts tables levels : List ℕ) → AuditAnswer
+auditOver m unreadable high r grants counts tables levels =
+    refuse Refused (auditGrounds unreadable high r grants counts tables levels)
     (auditFrom m (zip grants counts) (zip tables levels) (root2 r))
 
--- the audit over the bytes of a capture
-unfoldable pub audit : (base : ℕ) (bytes : List ℕ) → El2 → (grants counts tables levels : List ℕ) → AuditAnswer
-audit base bytes = auditOver (captured base bytes) base (length bytes)
+-- the audit over a file
+unfoldable pub audit : Form → (file : List ℕ) → El2 → (grants counts tables levels : List ℕ) → AuditAnswer
+audit form file = auditOver (captured form file) (layout form file .unreadable) (anyHigh (layout form file .banks))

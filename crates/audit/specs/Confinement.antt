@@ -4,10 +4,10 @@ use mathlib.Core.Path.{_≡_}
 use mathlib.Core.Bool.{true}
 use mathlib.Core.List.{List}
 use Prim.Native.Nat.{ℕ, _+_, _*_, _%_, _^_, _≤_}
-use lib.ListN.{length}
 use Rattle.reads.specs.Program.{Reader, stage-1, stage-2, All}
 use Rattle.access.specs.declared.Access.{Access}
 use Rattle.capture.specs.Capture.{SameBytes}
+use Rattle.layout.specs.Layout.{Form, partsOf, SameBounds}
 use Rattle.walk.specs.declared.stop.Stage.{Stage}
 use Rattle.walk.specs.declared.stop.Stage.the-variants.{One, Two}
 use Rattle.answers.specs.declared.Answer.{Answer}
@@ -68,13 +68,13 @@ pub record Confined (root : Root) (grants tables : List (ℕ × ℕ)) (t : Told)
   pub reads : All (λ q. ReadIn root grants tables (q .reader) (q .address)) (t .reads)
   pub answer : AnswerIn grants (t .answer)
 
--- two captures have the same bytes in the audited tables
-abbrev pub SameTables : (base : ℕ) (bytes bytes′ : List ℕ) → Root → (tables : List (ℕ × ℕ)) → Type 0
-SameTables base bytes bytes′ root tables = (table size : ℕ) → Audited root tables table size → SameBytes base bytes bytes′ table size
+-- two files have the same bytes in the audited tables
+abbrev pub SameTables : Form → (file file′ : List ℕ) → Root → (tables : List (ℕ × ℕ)) → Type 0
+SameTables form file file′ root tables = (table size : ℕ) → Audited root tables table size → SameBytes (partsOf form file) file file′ table size
 
--- After a clean audit of one capture, every question over another with the same bounds and the same bytes in the audited tables is
+-- After a clean audit of one file, every question over another with the same bounds and the same bytes in the audited tables is
 -- confined: PAMax and the EL2 registers are the audit's, the guest's registers, the access, the log and all other bytes are free.
-pub record Confinement (base : ℕ) (bytes bytes′ : List ℕ) (r : El2) (grants counts tables levels : List ℕ) : Type 0 where
-  pub confined : audit base bytes r grants counts tables levels ≡ Clean → length bytes ≡ length bytes′ →
-      SameTables base bytes bytes′ (root2 r) (zip tables levels) →
-      (g : El1) (a : Access) (log : List ℕ) → Confined (root2 r) (zip grants counts) (zip tables levels) (ask base bytes′ r g a log)
+pub record Confinement (form : Form) (file file′ : List ℕ) (r : El2) (grants counts tables levels : List ℕ) : Type 0 where
+  pub confined : audit form file r grants counts tables levels ≡ Clean → SameBounds form file file′ →
+      SameTables form file file′ (root2 r) (zip tables levels) →
+      (g : El1) (a : Access) (log : List ℕ) → Confined (root2 r) (zip grants counts) (zip tables levels) (ask form file′ r g a log)

@@ -1,10 +1,14 @@
 // The audit of stage 2's tables against the granted frames (01, The audit).
 use answers::Refusal;
+use capture::Part;
 use registers::El2;
 use walk::end;
 ghost use mathlib.Core.Path.{_≡_};
+ghost use mathlib.Core.Bool.{false};
 ghost use mathlib.Core.List.{List};
 ghost use Prim.Native.Nat.{ℕ};
+ghost use Rattle.capture.specs.Calls.{captured, Held};
+ghost use Rattle.layout.specs.Layout.{raw, core};
 ghost use Rattle.audit.specs.Audit as Audits;
 ghost use Rattle.audit.specs.Confinement.{Confinement};
 
@@ -55,21 +59,23 @@ pub fn number(a: AuditAnswer) -> u64
     }
 }
 
-// What is wrong first with stage 2's tables in a capture whose first byte lies at base, if anything is: with the root, and then with each
-// listed table. Grants are pairs of an address and a byte count, tables of an address and a level.
-pub fn audit(
-    bytes: &[u8],
-    base: u64,
+// What is wrong first with stage 2's tables in parts of a file, if anything is: with the root, and then with each listed table. Grants are
+// pairs of an address and a byte count, tables of an address and a level.
+fn over(
+    file: &[u8],
+    front: Part,
+    parts: &[u64],
+    high: bool,
     r: El2,
     grants: &[u64],
     counts: &[u64],
     tables: &[u64],
     levels: &[u64],
 ) -> AuditAnswer
-    ensures told { λ answer. ⌜ answer ≡ Audits.audit base (now (bytes .entry)) r (now (grants .entry)) (now (counts .entry)) (now (tables .entry)) (now (levels .entry)) ⌝ }
-    ensures confined { λ answer. ⌜ ((other : List ℕ) → Confinement base (now (bytes .entry)) other r (now (grants .entry)) (now (counts .entry)) (now (tables .entry)) (now (levels .entry))) ⌝ }
+    requires { ⌜ (high ≡ false → Held front (now parts) (now file)) ⌝ }
+    ensures { λ answer. ⌜ answer ≡ Audits.auditOver (captured front (now (parts .entry)) (now (file .entry))) false high r (now (grants .entry)) (now (counts .entry)) (now (tables .entry)) (now (levels .entry)) ⌝ }
 {
-    if capture::ends_high(base, bytes.len() as u64) {
+    if high {
         return AuditAnswer::Refused(Refusal::HighCapture);
     }
     let item = settings::of_audit(r);
@@ -88,5 +94,66 @@ pub fn audit(
         return AuditAnswer::Refused(Refusal::NoRoot);
     }
     let root = start.table;
-    table::from_root(bytes, base, grants, counts, tables, levels, root)
+    table::from_root(file, front, parts, grants, counts, tables, levels, root)
+}
+
+// The audit over a raw capture, of which the first byte lies at base.
+pub fn audit(
+    bytes: &[u8],
+    base: u64,
+    r: El2,
+    grants: &[u64],
+    counts: &[u64],
+    tables: &[u64],
+    levels: &[u64],
+) -> AuditAnswer
+    ensures told { λ answer. ⌜ answer ≡ Audits.audit (raw base) (now (bytes .entry)) r (now (grants .entry)) (now (counts .entry)) (now (tables .entry)) (now (levels .entry)) ⌝ }
+    ensures confined { λ answer. ⌜ ((other : List ℕ) → Confinement (raw base) (now (bytes .entry)) other r (now (grants .entry)) (now (counts .entry)) (now (tables .entry)) (now (levels .entry))) ⌝ }
+{
+    let whole = capture::whole(base, bytes.len());
+    let high = capture::ends_high(base, bytes.len() as u64);
+    let none = [0u64; 1];
+    over(
+        bytes,
+        whole,
+        &none[0..0],
+        high,
+        r,
+        grants,
+        counts,
+        tables,
+        levels,
+    )
+}
+
+// The audit over a core file.
+pub fn audit_core(
+    file: &[u8],
+    r: El2,
+    grants: &[u64],
+    counts: &[u64],
+    tables: &[u64],
+    levels: &[u64],
+) -> AuditAnswer
+    ensures told { λ answer. ⌜ answer ≡ Audits.audit core (now (file .entry)) r (now (grants .entry)) (now (counts .entry)) (now (tables .entry)) (now (levels .entry)) ⌝ }
+    ensures confined { λ answer. ⌜ ((other : List ℕ) → Confinement core (now (file .entry)) other r (now (grants .entry)) (now (counts .entry)) (now (tables .entry)) (now (levels .entry))) ⌝ }
+{
+    let mut words = [0u64; 192];
+    let laid = layout::lay_out(file, &mut words);
+    if !laid.readable {
+        return AuditAnswer::Refused(Refusal::CoreFile);
+    }
+    let end = 3 * laid.count;
+    let front = laid.front;
+    over(
+        file,
+        front,
+        &words[0..end],
+        laid.high,
+        r,
+        grants,
+        counts,
+        tables,
+        levels,
+    )
 }

@@ -2,6 +2,7 @@
 use crate::AuditAnswer;
 use crate::Finding;
 use crate::FindingKind;
+use capture::Part;
 use descriptor::entry;
 use descriptor::entry::DescriptorType;
 use descriptor::entry::Geometry;
@@ -12,7 +13,7 @@ ghost use mathlib.Core.Path.{_≡_};
 ghost use mathlib.Core.Bool.{true};
 ghost use Prim.Native.Nat.{_+_, _-_, _*_, _^_, _≤_, _<_};
 ghost use lib.ListN.{length};
-ghost use Rattle.capture.specs.Capture.{captured};
+ghost use Rattle.capture.specs.Calls.{captured, Held};
 ghost use Rattle.descriptor.specs.Entry.{shift, descriptorType};
 ghost use Rattle.lists.specs.Lists.{zip};
 ghost use Rattle.walk.specs.declared.table.Root.the-variants as Roots;
@@ -80,8 +81,9 @@ fn examine(
 
 // What lies at an entry's address says; an absent descriptor nothing.
 fn entry_says(
-    bytes: &[u8],
-    base: u64,
+    file: &[u8],
+    front: Part,
+    parts: &[u64],
     grants: &[u64],
     counts: &[u64],
     tables: &[u64],
@@ -90,10 +92,10 @@ fn entry_says(
     n: u64,
     at: u64,
 ) -> AuditAnswer
-    requires { ⌜ Calls.Formed (now grants) (now counts) (now tables) (now levels) × (n ≤ 3) × (shift g n < 48) × (base + length (now bytes) ≤ 2 ^ 64) ⌝ }
-    ensures { λ r. ⌜ r ≡ Calls.entrySays (captured base (now (bytes .entry))) g (zip (now (grants .entry)) (now (counts .entry))) (zip (now (tables .entry)) (now (levels .entry))) n at ⌝ }
+    requires { ⌜ Calls.Formed (now grants) (now counts) (now tables) (now levels) × (n ≤ 3) × (shift g n < 48) × Held front (now parts) (now file) ⌝ }
+    ensures { λ r. ⌜ r ≡ Calls.entrySays (captured front (now (parts .entry)) (now (file .entry))) g (zip (now (grants .entry)) (now (counts .entry))) (zip (now (tables .entry)) (now (levels .entry))) n at ⌝ }
 {
-    match capture::read(bytes, base, at) {
+    match capture::read(file, front, parts, at) {
         Read::Absent => AuditAnswer::Clean,
         Read::Word(x) => examine(grants, counts, tables, levels, g, n, at, x),
     }
@@ -101,8 +103,9 @@ fn entry_says(
 
 // The first finding among the entries of a table, ascending.
 fn entries_say(
-    bytes: &[u8],
-    base: u64,
+    file: &[u8],
+    front: Part,
+    parts: &[u64],
     grants: &[u64],
     counts: &[u64],
     tables: &[u64],
@@ -112,13 +115,13 @@ fn entries_say(
     entries: u64,
     table: u64,
 ) -> AuditAnswer
-    requires { ⌜ Calls.Formed (now grants) (now counts) (now tables) (now levels) × (n ≤ 3) × (shift g n < 48) × (base + length (now bytes) ≤ 2 ^ 64) × (table + 8 * entries < 2 ^ 64) ⌝ }
-    ensures { λ r. ⌜ r ≡ Audits.eachEntry (Calls.entrySays (captured base (now (bytes .entry))) g (zip (now (grants .entry)) (now (counts .entry))) (zip (now (tables .entry)) (now (levels .entry))) n) entries table ⌝ }
+    requires { ⌜ Calls.Formed (now grants) (now counts) (now tables) (now levels) × (n ≤ 3) × (shift g n < 48) × Held front (now parts) (now file) × (table + 8 * entries < 2 ^ 64) ⌝ }
+    ensures { λ r. ⌜ r ≡ Audits.eachEntry (Calls.entrySays (captured front (now (parts .entry)) (now (file .entry))) g (zip (now (grants .entry)) (now (counts .entry))) (zip (now (tables .entry)) (now (levels .entry))) n) entries table ⌝ }
 {
     let mut left = entries;
     let mut at = table;
     while 0 < left {
-        let said = entry_says(bytes, base, grants, counts, tables, levels, g, n, at);
+        let said = entry_says(file, front, parts, grants, counts, tables, levels, g, n, at);
         if !is_clean(said) {
             return said;
         }
@@ -129,25 +132,25 @@ fn entries_say(
 }
 
 // Whether an entry is in the capture.
-fn entry_lies(bytes: &[u8], base: u64, table: u64, at: u64) -> AuditAnswer
-    requires { ⌜ base + length (now bytes) ≤ 2 ^ 64 ⌝ }
-    ensures { λ r. ⌜ r ≡ Calls.entryLies (captured base (now (bytes .entry))) table at ⌝ }
+fn entry_lies(file: &[u8], front: Part, parts: &[u64], table: u64, at: u64) -> AuditAnswer
+    requires { ⌜ Held front (now parts) (now file) ⌝ }
+    ensures { λ r. ⌜ r ≡ Calls.entryLies (captured front (now (parts .entry)) (now (file .entry))) table at ⌝ }
 {
-    match capture::read(bytes, base, at) {
+    match capture::read(file, front, parts, at) {
         Read::Absent => found(FindingKind::NotCaptured, table),
         Read::Word(_) => AuditAnswer::Clean,
     }
 }
 
 // Whether all entries of a table are.
-fn entries_lie(bytes: &[u8], base: u64, entries: u64, table: u64) -> AuditAnswer
-    requires { ⌜ (base + length (now bytes) ≤ 2 ^ 64) × (table + 8 * entries < 2 ^ 64) ⌝ }
-    ensures { λ r. ⌜ r ≡ Audits.eachEntry (Calls.entryLies (captured base (now (bytes .entry))) table) entries table ⌝ }
+fn entries_lie(file: &[u8], front: Part, parts: &[u64], entries: u64, table: u64) -> AuditAnswer
+    requires { ⌜ Held front (now parts) (now file) × (table + 8 * entries < 2 ^ 64) ⌝ }
+    ensures { λ r. ⌜ r ≡ Audits.eachEntry (Calls.entryLies (captured front (now (parts .entry)) (now (file .entry))) table) entries table ⌝ }
 {
     let mut left = entries;
     let mut at = table;
     while 0 < left {
-        let lies = entry_lies(bytes, base, table, at);
+        let lies = entry_lies(file, front, parts, table, at);
         if !is_clean(lies) {
             return lies;
         }
@@ -166,8 +169,9 @@ fn two_to(j: u64) -> u64
 
 // A table of 2 to the j entries with n levels below them: finding 1, then 2, then the entries'.
 fn one_table(
-    bytes: &[u8],
-    base: u64,
+    file: &[u8],
+    front: Part,
+    parts: &[u64],
     grants: &[u64],
     counts: &[u64],
     tables: &[u64],
@@ -177,11 +181,11 @@ fn one_table(
     j: u64,
     table: u64,
 ) -> AuditAnswer
-    requires { ⌜ Calls.Formed (now grants) (now counts) (now tables) (now levels) × (n ≤ 3) × (shift g n < 48) × (base + length (now bytes) ≤ 2 ^ 64) × (j ≤ 17) × (table < 2 ^ 48) ⌝ }
-    ensures { λ r. ⌜ r ≡ Audits.auditTable (captured base (now (bytes .entry))) g (zip (now (grants .entry)) (now (counts .entry))) (zip (now (tables .entry)) (now (levels .entry))) n j table ⌝ }
+    requires { ⌜ Calls.Formed (now grants) (now counts) (now tables) (now levels) × (n ≤ 3) × (shift g n < 48) × Held front (now parts) (now file) × (j ≤ 17) × (table < 2 ^ 48) ⌝ }
+    ensures { λ r. ⌜ r ≡ Audits.auditTable (captured front (now (parts .entry)) (now (file .entry))) g (zip (now (grants .entry)) (now (counts .entry))) (zip (now (tables .entry)) (now (levels .entry))) n j table ⌝ }
 {
     let entries = two_to(j);
-    let lies = entries_lie(bytes, base, entries, table);
+    let lies = entries_lie(file, front, parts, entries, table);
     if !is_clean(lies) {
         return lies;
     }
@@ -189,8 +193,9 @@ fn one_table(
         return found(FindingKind::TouchesGrant, table);
     }
     entries_say(
-        bytes,
-        base,
+        file,
+        front,
+        parts,
         grants,
         counts,
         tables,
@@ -204,24 +209,26 @@ fn one_table(
 
 // Each listed table, with all of the granule's entries.
 fn listed_tables(
-    bytes: &[u8],
-    base: u64,
+    file: &[u8],
+    front: Part,
+    parts: &[u64],
     grants: &[u64],
     counts: &[u64],
     tables: &[u64],
     levels: &[u64],
     g: Geometry,
 ) -> AuditAnswer
-    requires { ⌜ Calls.Formed (now grants) (now counts) (now tables) (now levels) × (g .grainsize ≤ 16) × (g .stride ≤ 13) × (base + length (now bytes) ≤ 2 ^ 64) ⌝ }
-    ensures { λ r. ⌜ r ≡ Audits.auditListed (captured base (now (bytes .entry))) g (zip (now (grants .entry)) (now (counts .entry))) (zip (now (tables .entry)) (now (levels .entry))) (zip (now (tables .entry)) (now (levels .entry))) ⌝ }
+    requires { ⌜ Calls.Formed (now grants) (now counts) (now tables) (now levels) × (g .grainsize ≤ 16) × (g .stride ≤ 13) × Held front (now parts) (now file) ⌝ }
+    ensures { λ r. ⌜ r ≡ Audits.auditListed (captured front (now (parts .entry)) (now (file .entry))) g (zip (now (grants .entry)) (now (counts .entry))) (zip (now (tables .entry)) (now (levels .entry))) (zip (now (tables .entry)) (now (levels .entry))) ⌝ }
 {
     let stride = g.stride;
     let mut i = 0;
     while i < tables.len() {
         let level = levels[i];
         let said = one_table(
-            bytes,
-            base,
+            file,
+            front,
+            parts,
             grants,
             counts,
             tables,
@@ -241,23 +248,25 @@ fn listed_tables(
 
 // The root with all its entries, and then each listed table.
 pub(crate) fn from_root(
-    bytes: &[u8],
-    base: u64,
+    file: &[u8],
+    front: Part,
+    parts: &[u64],
     grants: &[u64],
     counts: &[u64],
     tables: &[u64],
     levels: &[u64],
     root: Table,
 ) -> AuditAnswer
-    requires { ⌜ Calls.Formed (now grants) (now counts) (now tables) (now levels) × Small root × (base + length (now bytes) ≤ 2 ^ 64) ⌝ }
-    ensures { λ r. ⌜ r ≡ Audits.auditFrom (captured base (now (bytes .entry))) (zip (now (grants .entry)) (now (counts .entry))) (zip (now (tables .entry)) (now (levels .entry))) (Roots.Usable root) ⌝ }
+    requires { ⌜ Calls.Formed (now grants) (now counts) (now tables) (now levels) × Small root × Held front (now parts) (now file) ⌝ }
+    ensures { λ r. ⌜ r ≡ Audits.auditFrom (captured front (now (parts .entry)) (now (file .entry))) (zip (now (grants .entry)) (now (counts .entry))) (zip (now (tables .entry)) (now (levels .entry))) (Roots.Usable root) ⌝ }
 {
     let g = root.geometry;
     let levels_here = root.levels;
     let n = levels_here - 1;
     let said = one_table(
-        bytes,
-        base,
+        file,
+        front,
+        parts,
         grants,
         counts,
         tables,
@@ -270,5 +279,5 @@ pub(crate) fn from_root(
     if !is_clean(said) {
         return said;
     }
-    listed_tables(bytes, base, grants, counts, tables, levels, g)
+    listed_tables(file, front, parts, grants, counts, tables, levels, g)
 }

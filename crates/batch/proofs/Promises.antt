@@ -10,7 +10,8 @@ use Rattle.reads.specs.declared.Read.{Read}
 use Rattle.access.specs.declared.Access.{Access}
 use Rattle.descriptor.specs.declared.entry.FaultKind.{FaultKind}
 use Rattle.descriptor.specs.declared.entry.FaultKind.the-variants as F
-use Rattle.capture.specs.Capture.{captured, SameBytes}
+use Rattle.capture.specs.Capture.{anyHigh, SameBytes}
+use Rattle.layout.specs.Layout.{Form, layout, partsOf, captured, SameBounds}
 use Rattle.walk.specs.declared.stop.Stop.{Stop}
 use Rattle.walk.specs.declared.stop.Stop.the-variants as S
 use Rattle.walk.specs.declared.stage2.Stage2.{Stage2}
@@ -19,13 +20,13 @@ use Rattle.stages.specs.declared.stage1.Stage1.{Stage1}
 use Rattle.stages.specs.declared.both.Translation.{Translation}
 use Rattle.regime.specs.Roots.{stage1, stage2}
 use Rattle.answers.specs.Answers.{answer, faultNumber, number}
-use Rattle.answers.specs.Refusals.{logWords, verdict, shared}
-use Rattle.answers.specs.Question.{told, ask}
+use Rattle.answers.specs.Refusals.{logWords, verdict}
+use Rattle.answers.specs.Question.{common, told, ask}
 use Rattle.answers.specs.declared.Verdict.{Verdict}
 use Rattle.answers.specs.declared.Verdict.the-variants.{Accepted, Refused}
 use Rattle.answers.specs.declared.Answer.{Answer}
 use Rattle.answers.proofs.Refusals.{refuse-refused, refuse-accepted, by-refuse}
-use Rattle.answers.proofs.Verdicts.{long-log, later-accepted}
+use Rattle.answers.proofs.Verdicts.{long-log, common-accepted}
 use Rattle.answers.proofs.Counts.{is-access, counts}
 use Rattle.answers.proofs.Framing.{framing}
 use Rattle.answers.specs.Entries.{answerOf}
@@ -61,12 +62,12 @@ sorted-all f h (a ∷ l) = cons (h a) (sorted-all f h l)
 
 -- ---- each entry is a question
 
-module _ (base : ℕ) (bytes : List ℕ) (s : Shared) where
-  asks : verdict (shared base (length bytes) (s .el2) (s .el1) (s .kind) (s .el) (s .size)) ≡ Accepted → (log : List ℕ) → logWords ≤ length log → (a : ℕ) →
-      answerTo (captured base bytes) s a ≡ ask base bytes (s .el2) (s .el1) (accessTo s a) log .answer
+module _ (form : Form) (file : List ℕ) (s : Shared) where
+  asks : verdict (common form file (s .el2) (s .el1) (s .kind) (s .el) (s .size)) ≡ Accepted → (log : List ℕ) → logWords ≤ length log → (a : ℕ) →
+      answerTo (captured form file) s a ≡ ask form file (s .el2) (s .el1) (accessTo s a) log .answer
   asks e log long a =
-      any-log (captured base bytes) (stage1 (s .el2) (s .el1)) (stage2 (s .el2)) (accessTo s a) log
-      ∙ sym (ap (λ t. t .answer) (is-access base bytes (s .el2) (s .el1) (accessTo s a) log (long-log (length log) base (length bytes) (s .el2) (s .el1) (accessTo s a) long ∙ e)))
+      any-log (captured form file) (stage1 (s .el2) (s .el1)) (stage2 (s .el2)) (accessTo s a) log
+      ∙ sym (ap (λ t. t .answer) (is-access form file (s .el2) (s .el1) (accessTo s a) log (long-log (length log) form file (s .el2) (s .el1) (accessTo s a) long ∙ e)))
 
 -- ---- framing
 
@@ -74,27 +75,27 @@ same-map : (f g : ℕ → Answer) {P : ℕ → Type 0} → ((a : ℕ) → P a �
 same-map f g h nil = refl
 same-map f g h (cons p t) = rw (h _ p, same-map f g h t)
 
-module _ (base : ℕ) (bytes bytes′ : List ℕ) (s : Shared) (addresses outputs numbers log : List ℕ) (long : logWords ≤ length log) (bounds : length bytes ≡ length bytes′)
-    (same : All (λ a. All (λ q. SameBytes base bytes bytes′ (q .address) 8) (ask base bytes (s .el2) (s .el1) (accessTo s a) log .reads)) addresses) where
-  by-verdict : (v : Verdict) → verdict (batchGrounds base (length bytes) s (length addresses) (length outputs) (length numbers)) ≡ v →
-      batch base bytes′ s addresses outputs numbers ≡ batch base bytes s addresses outputs numbers
+module _ (form : Form) (file file′ : List ℕ) (s : Shared) (addresses outputs numbers log : List ℕ) (long : logWords ≤ length log) (bounds : SameBounds form file file′)
+    (same : All (λ a. All (λ q. SameBytes (partsOf form file) file file′ (q .address) 8) (ask form file (s .el2) (s .el1) (accessTo s a) log .reads)) addresses) where
+  by-verdict : (v : Verdict) → verdict (batchGrounds (layout form file .unreadable) (anyHigh (layout form file .banks)) s (length addresses) (length outputs) (length numbers)) ≡ v →
+      batch form file′ s addresses outputs numbers ≡ batch form file s addresses outputs numbers
   unfolding batch batchOver
-  by-verdict (Refused why) e = refuse-refused _ _ _ why (rw bounds at e) ∙ sym (refuse-refused _ _ _ why e)
+  by-verdict (Refused why) e = refuse-refused _ _ _ why (rw (bounds .layout) at e) ∙ sym (refuse-refused _ _ _ why e)
   by-verdict Accepted e =
-      let each = later-accepted _ _ e in
-      refuse-accepted _ _ _ (rw bounds at e)
+      let each = common-accepted _ _ _ e in
+      refuse-accepted _ _ _ (rw (bounds .layout) at e)
       ∙ ap answered
       (same-map _ _
-      (λ a h. asks base bytes′ s (rw bounds at each) log long a ∙ ap (λ t. t .answer) (framing base bytes bytes′ (s .el2) (s .el1) (accessTo s a) log .framed bounds h) ∙ sym (asks base bytes s each log long a))
+      (λ a h. asks form file′ s (rw (bounds .layout) at each) log long a ∙ ap (λ t. t .answer) (framing form file file′ (s .el2) (s .el1) (accessTo s a) log .framed bounds h) ∙ sym (asks form file s each log long a))
       same)
       ∙ sym (refuse-accepted _ _ _ e)
 
-pub promised : (base : ℕ) (bytes : List ℕ) (s : Shared) (addresses outputs numbers : List ℕ) → Promised base bytes s addresses outputs numbers
+pub promised : (form : Form) (file : List ℕ) (s : Shared) (addresses outputs numbers : List ℕ) → Promised form file s addresses outputs numbers
 unfolding batch batchOver answered
-promised base bytes s addresses outputs numbers =
+promised form file s addresses outputs numbers =
     record {
       balanced = by-refuse (λ (t : BatchTold). Balanced (t .answer)) _ _ _ (λ why. tt) (adds-up _ (sorted-all _ (λ a. sorted-answer _ _ _ _) addresses));
-      asks = asks base bytes s;
-      counted = λ log a. counts base bytes (s .el2) (s .el1) (accessTo s a) log;
-      framed = λ bytes′ log long bounds same. by-verdict base bytes bytes′ s addresses outputs numbers log long bounds same _ refl;
+      asks = asks form file s;
+      counted = λ log a. counts form file (s .el2) (s .el1) (accessTo s a) log;
+      framed = λ file′ log long bounds same. by-verdict form file file′ s addresses outputs numbers log long bounds same _ refl;
     }

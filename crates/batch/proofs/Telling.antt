@@ -2,20 +2,32 @@
 -- Assumes nothing.
 use mathlib.Core.Path.{_≡_, refl, sym, ap, _∙_}
 use mathlib.Core.Bool.{Bool, true, false, not, _||_, true≢false}
-use mathlib.Core.List.{List, map}
+use mathlib.Core.List.{List, [], map}
 use Prim.Native.Nat.{ℕ, _≤_}
 use lib.Dec.{ltb, eqb}
 use lib.ListN.{length}
 use borrow.Author.Tests.{eqb-true, ltb-false}
 use Rattle.bits.proofs.Tests.{pick-true, pick-false}
-use Rattle.capture.specs.Capture.{captured}
+use Rattle.bits.specs.Bits.{pick}
+use Rattle.reads.specs.Program.{Request}
+use Rattle.reads.specs.declared.Read.{Read}
+use Rattle.capture.specs.Capture.{endsHigh}
+use Rattle.capture.specs.Calls as Calls
+use Rattle.layout.specs.Elf.{isCore}
+use Rattle.layout.specs.Layout.{raw, core, layout}
+use Rattle.layout.specs.Calls.{Lays}
+use Rattle.layout.specs.declared.Laid.{Laid}
+use Rattle.layout.proofs.Raw as Raw
+use Rattle.layout.proofs.Raw.{raw-captured, raw-high}
+use Rattle.layout.proofs.Core.{lent, laid-captured, laid-high, laid-readable}
 use Rattle.answers.specs.Refusals.{refuse, verdict, shared}
 use Rattle.answers.specs.declared.Refusal.{Refusal}
-use Rattle.answers.specs.declared.Refusal.the-variants.{BatchLists}
+use Rattle.answers.specs.declared.Refusal.the-variants.{BatchLists, CoreFile}
 use Rattle.answers.specs.declared.Verdict.{Verdict}
 use Rattle.answers.specs.declared.Verdict.the-variants as Verdict
 use Rattle.answers.proofs.Refusals.{refuse-refused, refuse-accepted}
 use Rattle.ledger.specs.declared.Ledger.{Ledger}
+use Rattle.batch.specs.declared.BatchAnswer.{BatchAnswer}
 use Rattle.batch.specs.declared.BatchAnswer.the-variants.{Done, Refused}
 use Rattle.batch.specs.Batch.{Shared, answerTo, unequal, batchGrounds, BatchTold, answered, batchOver, batch}
 use Rattle.batch.specs.Promises.{BatchTells}
@@ -31,33 +43,57 @@ equal-lists asked outputs numbers = by-tests (eqb asked outputs) (eqb asked numb
     by-tests true false d p q r e = absurd (true≢false e)
     by-tests true true d p q r e = (sym (p refl), sym (q refl), r e)
 
-module _ (base : ℕ) (bytes : List ℕ) (s : Shared) (addresses outputs numbers : List ℕ) where
-  told-as : {t : BatchTold} → batch base bytes s addresses outputs numbers ≡ t → BatchTells (batch base bytes s addresses outputs numbers) (t .answer) (t .outputs) (t .numbers)
+module _ (m : Request → Read) (high : Bool) (s : Shared) (addresses outputs numbers : List ℕ) where
+  abbrev pub given : BatchTold
+  given = batchOver m false high s addresses outputs numbers
+
+  told-as : {t : BatchTold} → given ≡ t → BatchTells given (t .answer) (t .outputs) (t .numbers)
   told-as e = record { answered = sym (ap (λ (z : BatchTold). z .answer) e); placed = sym (ap (λ (z : BatchTold). z .outputs) e); numbered = sym (ap (λ (z : BatchTold). z .numbers) e) }
 
-  pub tells-lists : unequal (length addresses) (length outputs) (length numbers) ≡ true → BatchTells (batch base bytes s addresses outputs numbers) (Refused BatchLists) outputs numbers
-  unfolding batch batchOver refuse
+  pub tells-lists : unequal (length addresses) (length outputs) (length numbers) ≡ true → BatchTells given (Refused BatchLists) outputs numbers
+  unfolding batchOver refuse pick
   tells-lists e = told-as (pick-true _ _ _ e)
 
   module _ (equal : unequal (length addresses) (length outputs) (length numbers) ≡ false) where
     abbrev own : Verdict
-    own = verdict (shared base (length bytes) (s .el2) (s .el1) (s .kind) (s .el) (s .size))
+    own = verdict (shared high (s .el2) (s .el1) (s .kind) (s .el) (s .size))
 
-    whole : verdict (batchGrounds base (length bytes) s (length addresses) (length outputs) (length numbers)) ≡ own
-    unfolding refuse
+    whole : verdict (batchGrounds false high s (length addresses) (length outputs) (length numbers)) ≡ own
+    unfolding refuse pick
     whole = pick-false _ _ _ equal
 
-    pub tells-refused : (why : Refusal) → own ≡ Verdict.Refused why → BatchTells (batch base bytes s addresses outputs numbers) (Refused why) outputs numbers
-    unfolding batch batchOver
+    pub tells-refused : (why : Refusal) → own ≡ Verdict.Refused why → BatchTells given (Refused why) outputs numbers
+    unfolding batchOver
     tells-refused why e = told-as (refuse-refused _ _ _ why (whole ∙ e))
 
-    pub tells-filled : own ≡ Verdict.Accepted → (l : Ledger) (outputs′ numbers′ : List ℕ) → Filled (answerTo (captured base bytes) s) addresses l outputs′ numbers′ →
-        BatchTells (batch base bytes s addresses outputs numbers) (Done l) outputs′ numbers′
-    unfolding batch batchOver answered
+    pub tells-filled : own ≡ Verdict.Accepted → (l : Ledger) (outputs′ numbers′ : List ℕ) → Filled (answerTo m s) addresses l outputs′ numbers′ →
+        BatchTells given (Done l) outputs′ numbers′
+    unfolding batchOver answered
     tells-filled e l outputs′ numbers′ f =
-        let t : batch base bytes s addresses outputs numbers ≡ answered (map (answerTo (captured base bytes) s) addresses) = refuse-accepted _ _ _ (whole ∙ e) in
+        let t : given ≡ answered (map (answerTo m s) addresses) = refuse-accepted _ _ _ (whole ∙ e) in
         record {
           answered = ap Done (f .figures) ∙ sym (ap (λ (z : BatchTold). z .answer) t);
           placed = f .placed ∙ sym (ap (λ (z : BatchTold). z .outputs) t);
           numbered = f .numbered ∙ sym (ap (λ (z : BatchTold). z .numbers) t);
         }
+
+-- ---- the batch over a file, as code runs it
+
+module _ (s : Shared) (addresses outputs numbers : List ℕ) {answer : BatchAnswer} {outputs′ numbers′ : List ℕ} where
+  pub raw-tells : (base : ℕ) (file : List ℕ) →
+      BatchTells (batchOver (Calls.captured (Raw.whole base file) [] file) false (endsHigh base (length file)) s addresses outputs numbers) answer outputs′ numbers′ →
+      BatchTells (batch (raw base) file s addresses outputs numbers) answer outputs′ numbers′
+  unfolding batch layout
+  raw-tells base file t = rw (raw-captured base file, raw-high base file) t
+
+  pub core-tells : {file words′ : List ℕ} {f : Laid} (l : Lays file f words′) (readable : f .readable ≡ true) →
+      BatchTells (batchOver (Calls.captured (f .front) (lent l readable) file) false (f .high) s addresses outputs numbers) answer outputs′ numbers′ →
+      BatchTells (batch core file s addresses outputs numbers) answer outputs′ numbers′
+  unfolding batch
+  core-tells l readable t = rw (← laid-captured l readable, ← laid-high l readable, ← laid-readable l readable) t
+
+-- one that is not accepted
+pub core-refused : (file : List ℕ) (s : Shared) (addresses outputs numbers : List ℕ) → isCore file ≡ false →
+    BatchTells (batch core file s addresses outputs numbers) (Refused CoreFile) outputs numbers
+unfolding batch batchOver layout refuse pick
+core-refused file s addresses outputs numbers e = rw e (record { answered = refl; placed = refl; numbered = refl })

@@ -8,12 +8,13 @@ use lib.ListN.{length}
 use Rattle.reads.specs.Program.{Request}
 use Rattle.reads.specs.declared.Read.{Read}
 use Rattle.access.specs.declared.Access.{Access}
-use Rattle.capture.specs.Capture.{captured}
+use Rattle.capture.specs.Capture.{anyHigh}
+use Rattle.layout.specs.Layout.{Form, layout, captured}
 use Rattle.registers.specs.declared.El1.{El1}
 use Rattle.registers.specs.declared.El2.{El2}
 use Rattle.regime.specs.Roots.{stage1, stage2}
 use Rattle.answers.specs.Answers.{number, refusalNumber, itemOf}
-use Rattle.answers.specs.Refusals.{Ground, refuse, shared}
+use Rattle.answers.specs.Refusals.{Ground, refuse, coreFile, shared}
 use Rattle.answers.specs.Entries.{answerOf, outputOf}
 use Rattle.answers.specs.declared.Refusal.the-variants.{BatchLists}
 use Rattle.answers.specs.declared.Answer.{Answer}
@@ -56,10 +57,12 @@ batchCarries (Refused r) = itemOf r
 abbrev pub unequal : (asked outputs numbers : ℕ) → Bool
 unequal asked outputs numbers = not (eqb asked outputs) || not (eqb asked numbers) || ltb 4096 asked
 
--- 14 in 10's place, and then what a question is refused for too
-abbrev pub batchGrounds : (base size : ℕ) → Shared → (asked outputs numbers : ℕ) → List Ground
-batchGrounds base size s asked outputs numbers =
-    record { holds = unequal asked outputs numbers; refusal = BatchLists } ∷ shared base size (s .el2) (s .el1) (s .kind) (s .el) (s .size)
+-- 17, 14 in 10's place, and then what a question is refused for too
+abbrev pub batchGrounds : (unreadable high : Bool) → Shared → (asked outputs numbers : ℕ) → List Ground
+batchGrounds unreadable high s asked outputs numbers =
+    coreFile unreadable
+    ∷ record { holds = unequal asked outputs numbers; refusal = BatchLists }
+    ∷ shared high (s .el2) (s .el1) (s .kind) (s .el) (s .size)
 
 -- what a batch gives: its answer, and the two lent lists afterwards
 pub record BatchTold : Type 0 where
@@ -70,13 +73,13 @@ pub record BatchTold : Type 0 where
 unfoldable pub answered : List Answer → BatchTold
 answered l = record { answer = Done (ledger (map number l)); outputs = map outputOf l; numbers = map number l }
 
--- the batch over a memory, that of a capture of so many bytes at base; a refused one writes nothing
-unfoldable pub batchOver : (Request → Read) → (base size : ℕ) → Shared → (addresses outputs numbers : List ℕ) → BatchTold
-batchOver m base size s addresses outputs numbers =
+-- the batch over a memory, that of a file that may be unreadable or have a bank that ends too high; a refused one writes nothing
+unfoldable pub batchOver : (Request → Read) → (unreadable high : Bool) → Shared → (addresses outputs numbers : List ℕ) → BatchTold
+batchOver m unreadable high s addresses outputs numbers =
     refuse (λ why. record { answer = Refused why; outputs = outputs; numbers = numbers })
-    (batchGrounds base size s (length addresses) (length outputs) (length numbers))
+    (batchGrounds unreadable high s (length addresses) (length outputs) (length numbers))
     (answered (map (answerTo m s) addresses))
 
--- the batch over the bytes of a capture
-unfoldable pub batch : (base : ℕ) (bytes : List ℕ) → Shared → (addresses outputs numbers : List ℕ) → BatchTold
-batch base bytes = batchOver (captured base bytes) base (length bytes)
+-- the batch over a file
+unfoldable pub batch : Form → (file : List ℕ) → Shared → (addresses outputs numbers : List ℕ) → BatchTold
+batch form file = batchOver (captured form file) (layout form file .unreadable) (anyHigh (layout form file .banks))

@@ -2,10 +2,14 @@
 
 use answers::Refusal;
 use answers::Verdict;
+use capture::Part;
 use ledger::Ledger;
 use registers::El1;
 use registers::El2;
 ghost use mathlib.Core.Path.{_≡_};
+ghost use mathlib.Core.Bool.{false};
+ghost use Rattle.capture.specs.Calls.{captured, Held};
+ghost use Rattle.layout.specs.Layout.{raw, core};
 ghost use Rattle.batch.specs.Batch as Batches;
 ghost use Rattle.batch.specs.Promises as Promises;
 
@@ -35,10 +39,12 @@ fn unequal(asked: usize, outputs: usize, numbers: usize) -> bool
     (asked != outputs) | (asked != numbers) | (MOST < asked)
 }
 
-// Answers each address: its answer's number, and its output address or 0. Registers are decoded once.
-pub fn run(
-    bytes: &[u8],
-    base: u64,
+// Answers each address, by parts of a file: its answer's number, and its output address or 0. Registers are decoded once.
+fn over(
+    file: &[u8],
+    front: Part,
+    parts: &[u64],
+    high: bool,
     r: El2,
     g: El1,
     kind: u64,
@@ -48,20 +54,21 @@ pub fn run(
     outputs: &mut [u64],
     numbers: &mut [u64],
 ) -> BatchAnswer
-    ensures told { λ answer. ⌜ Promises.BatchTells (Batches.batch base (now (bytes .entry)) (Batches.sharing r g kind el size) (now (addresses .entry)) (now (outputs .entry)) (now (numbers .entry))) answer (now (outputs .exit)) (now (numbers .exit)) ⌝ }
-    ensures promised { λ answer. ⌜ Promises.Promised base (now (bytes .entry)) (Batches.sharing r g kind el size) (now (addresses .entry)) (now (outputs .entry)) (now (numbers .entry)) ⌝ }
+    requires { ⌜ (high ≡ false → Held front (now parts) (now file)) ⌝ }
+    ensures { λ answer. ⌜ Promises.BatchTells (Batches.batchOver (captured front (now (parts .entry)) (now (file .entry))) false high (Batches.sharing r g kind el size) (now (addresses .entry)) (now (outputs .entry)) (now (numbers .entry))) answer (now (outputs .exit)) (now (numbers .exit)) ⌝ }
 {
     if unequal(addresses.len(), outputs.len(), numbers.len()) {
         return BatchAnswer::Refused(Refusal::BatchLists);
     }
-    let verdict = answers::shared_verdict(base, bytes.len() as u64, r, g, kind, el, size);
+    let verdict = answers::shared_verdict(high, r, g, kind, el, size);
     match verdict {
         Verdict::Refused(why) => BatchAnswer::Refused(why),
         Verdict::Accepted => {
             let mut log = [0u64; 24];
             accesses::each(
-                bytes,
-                base,
+                file,
+                front,
+                parts,
                 r,
                 g,
                 kind,
@@ -75,4 +82,77 @@ pub fn run(
             BatchAnswer::Done(ledger::count(numbers))
         }
     }
+}
+
+// The batch over a raw capture, of which the first byte lies at base.
+pub fn run(
+    bytes: &[u8],
+    base: u64,
+    r: El2,
+    g: El1,
+    kind: u64,
+    el: u64,
+    size: u64,
+    addresses: &[u64],
+    outputs: &mut [u64],
+    numbers: &mut [u64],
+) -> BatchAnswer
+    ensures told { λ answer. ⌜ Promises.BatchTells (Batches.batch (raw base) (now (bytes .entry)) (Batches.sharing r g kind el size) (now (addresses .entry)) (now (outputs .entry)) (now (numbers .entry))) answer (now (outputs .exit)) (now (numbers .exit)) ⌝ }
+    ensures promised { λ answer. ⌜ Promises.Promised (raw base) (now (bytes .entry)) (Batches.sharing r g kind el size) (now (addresses .entry)) (now (outputs .entry)) (now (numbers .entry)) ⌝ }
+{
+    let whole = capture::whole(base, bytes.len());
+    let high = capture::ends_high(base, bytes.len() as u64);
+    let none = [0u64; 1];
+    over(
+        bytes,
+        whole,
+        &none[0..0],
+        high,
+        r,
+        g,
+        kind,
+        el,
+        size,
+        addresses,
+        outputs,
+        numbers,
+    )
+}
+
+// The batch over a core file.
+pub fn run_core(
+    file: &[u8],
+    r: El2,
+    g: El1,
+    kind: u64,
+    el: u64,
+    size: u64,
+    addresses: &[u64],
+    outputs: &mut [u64],
+    numbers: &mut [u64],
+) -> BatchAnswer
+    ensures told { λ answer. ⌜ Promises.BatchTells (Batches.batch core (now (file .entry)) (Batches.sharing r g kind el size) (now (addresses .entry)) (now (outputs .entry)) (now (numbers .entry))) answer (now (outputs .exit)) (now (numbers .exit)) ⌝ }
+    ensures promised { λ answer. ⌜ Promises.Promised core (now (file .entry)) (Batches.sharing r g kind el size) (now (addresses .entry)) (now (outputs .entry)) (now (numbers .entry)) ⌝ }
+{
+    let mut words = [0u64; 192];
+    let laid = layout::lay_out(file, &mut words);
+    if !laid.readable {
+        return BatchAnswer::Refused(Refusal::CoreFile);
+    }
+    let end = 3 * laid.count;
+    let front = laid.front;
+    over(
+        file,
+        front,
+        &words[0..end],
+        laid.high,
+        r,
+        g,
+        kind,
+        el,
+        size,
+        addresses,
+        outputs,
+        numbers,
+    )
 }

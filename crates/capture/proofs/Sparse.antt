@@ -2,7 +2,7 @@
 -- Assumes nothing.
 use mathlib.Core.Path.{_≡_, refl, sym, ap, ap₂, _∙_, fun-ext}
 use mathlib.Core.Bool.{Bool, true, false}
-use mathlib.Core.List.{List, _∷_}
+use mathlib.Core.List.{List, [], _∷_}
 use Prim.Native.Nat.{ℕ, zero, suc, _+_, _-_, _*_, _/_, _%_, _^_, _≤_, _<_}
 use native.Mathlib.Nat.{add-zero, div-div-eq-div-mul, mod-one, div-one, pow-suc}
 use native.Mathlib.Omega.{arith}
@@ -15,6 +15,7 @@ use Rattle.reads.specs.Program.{Request}
 use Rattle.reads.specs.declared.Read.the-variants.{Absent, Word}
 use Rattle.capture.specs.Capture.{little, within, memory}
 use Rattle.capture.proofs.Bytewise.{in-bounds}
+use Rattle.capture.specs.declared.Part.{Part}
 use Rattle.capture.specs.Sparse.{wordAt, byteAt, image, descriptorAt, sparse}
 
 drop-image : (ws : List (ℕ × ℕ)) (k a n : ℕ) → k ≤ n → drop k (image ws a n) ≡ image ws (a + k) (n - k)
@@ -64,17 +65,23 @@ word-spelled ws a = by-test (eqb (a % 8) 0) refl
     by-test true e = sym (ap (λ z. little (image ws z 8)) (sym (add-zero a)) ∙ spelled ws a (eqb-true _ _ e) 8 0 refl ∙ ap (_% 2 ^ 64) (div-one _))
     by-test false e = refl
 
-pub sparse-memory : (base length : ℕ) (ws : List (ℕ × ℕ)) → sparse base length ws ≡ memory base length (image ws base length)
+-- a part that is the whole of some bytes
+abbrev pub whole : (base length : ℕ) → Part
+whole base length = record { address = base; from = 0; to = length }
+
+pub sparse-memory : (base length : ℕ) (ws : List (ℕ × ℕ)) → sparse base length ws ≡ memory (whole base length ∷ []) (image ws base length)
 unfolding sparse memory pick
-sparse-memory base length ws = fun-ext (λ q. by-test q (within base length (q .address)) refl)
+sparse-memory base length ws = fun-ext (λ q. let e : length - 0 ≡ length = omega arith in rw e (by-test q (within base length (q .address)) refl))
   where
     by-test : (q : Request) (b : Bool) → within base length (q .address) ≡ b →
-        pick b (Word (descriptorAt ws (q .address))) Absent ≡ pick b (Word (little (take 8 (drop (q .address - base) (image ws base length))))) Absent
+        pick b (Word (descriptorAt ws (q .address))) Absent
+        ≡ pick b (Word (little (take 8 (drop (q .address - base) (take length (image ws base length)))))) Absent
     by-test q true e =
         let h = in-bounds base length (q .address) e in
         let k : q .address - base ≤ length = omega arith in
         let room : 8 ≤ length - (q .address - base) = omega arith in
         let at : base + (q .address - base) ≡ q .address = omega arith in
-        ap Word (word-spelled ws (q .address) ∙ sym (ap (λ l. little (take 8 l)) (drop-image ws (q .address - base) base length k)
-        ∙ ap little (take-image ws 8 (base + (q .address - base)) (length - (q .address - base)) room) ∙ ap (λ z. little (image ws z 8)) at))
+        rw (take-image ws length base length (omega arith))
+        (ap Word (word-spelled ws (q .address) ∙ sym (ap (λ l. little (take 8 l)) (drop-image ws (q .address - base) base length k)
+        ∙ ap little (take-image ws 8 (base + (q .address - base)) (length - (q .address - base)) room) ∙ ap (λ z. little (image ws z 8)) at)))
     by-test q false e = refl

@@ -1,2 +1,3 @@
 pub mod Capture
+pub mod Calls
 pub mod Sparse

@@ -1,10 +1,18 @@
 // Captures: what descriptor lies at a physical address.
 ghost use mathlib.Core.Path.{_≡_};
-ghost use Prim.Native.Nat.{_+_, _-_, _*_, _^_, _≤_, _<_};
+ghost use Prim.Native.Nat.{ℕ, _+_, _-_, _*_, _^_, _≤_, _<_};
 ghost use lib.ListN.{length, getD};
 ghost use Rattle.reads.specs.Program.{Reader};
-ghost use Rattle.capture.specs.Capture.{captured, endsHigh};
+ghost use Rattle.capture.specs.Capture as Captures;
+ghost use Rattle.capture.specs.Calls as Calls;
 use reads::Read;
+
+// What a file has of a bank: its bytes from one place to before another, which stand at a physical address.
+pub struct Part {
+    pub address: u64,
+    pub from: usize,
+    pub to: usize,
+}
 
 // A byte as a word.
 fn wide(x: u8) -> u64
@@ -14,7 +22,7 @@ fn wide(x: u8) -> u64
 }
 
 // The eight bytes from a place on as a word, the least first. A sum and no loop, so that it compiles to one load.
-fn word(bytes: &[u8], i: usize) -> u64
+pub fn word(bytes: &[u8], i: usize) -> u64
     requires { ⌜ i + 8 ≤ length (now bytes) ⌝ }
     ensures { λ r. ⌜ (let byte = getD (now (bytes .entry)) in
         r ≡ byte i 0 + byte (i + 1) 0 * 0x100 + byte (i + 2) 0 * 0x1_0000 + byte (i + 3) 0 * 0x100_0000
@@ -40,10 +48,9 @@ fn places(n: u64) -> u64
 
 // The descriptor at a physical address of the bytes that stand at base. One comparison tells whether all eight are there: below base
 // the difference wraps to 2^64 - base or more, which is no less than the number of bytes.
-pub fn read(bytes: &[u8], base: u64, address: u64) -> Read
+fn read_bytes(bytes: &[u8], base: u64, address: u64) -> Read
     requires { ⌜ base + length (now bytes) ≤ 2 ^ 64 ⌝ }
-    ensures { λ r. ⌜ ((reader : Reader) →
-        r ≡ captured base (now (bytes .entry)) (record { reader = reader; address = address })) ⌝ }
+    ensures { λ r. ⌜ r ≡ Captures.found base (now (bytes .entry)) address ⌝ }
 {
     let n = bytes.len() as u64;
     let room = places(n);
@@ -55,13 +62,104 @@ pub fn read(bytes: &[u8], base: u64, address: u64) -> Read
     }
 }
 
-// The capture's end lies past 2^48. No sum wraps.
-pub fn ends_high(base: u64, length: u64) -> bool
-    ensures { λ r. ⌜ r ≡ endsHigh base length ⌝ }
+// How many parts start at or below an address. They ascend, so that each step halves the search.
+fn starting_by(parts: &[u64], address: u64) -> usize
+    requires { ⌜ ((i j : ℕ) → i < j → j < Calls.countOf (now parts) → Calls.partAt (now parts) i .address ≤ Calls.partAt (now parts) j .address) ⌝ }
+    ensures { λ k. ⌜ Calls.StartingBy (now (parts .entry)) address k ⌝ }
+{
+    let mut low = 0;
+    let mut high = parts.len() / 3;
+    while low < high {
+        let middle = low + (high - low) / 2;
+        if parts[3 * middle] <= address {
+            low = middle + 1;
+        } else {
+            high = middle;
+        }
+    }
+    low
+}
+
+// The descriptor at a physical address, in the only part that may have it: the last that starts at or below it.
+fn read_parts(file: &[u8], parts: &[u64], address: u64) -> Read
+    requires { ⌜ Calls.Ascending (now parts) (length (now file)) ⌝ }
+    ensures { λ r. ⌜ ((reader : Reader) →
+        r ≡ Captures.memory (Calls.partsBy (now (parts .entry))) (now (file .entry)) (record { reader = reader; address = address })) ⌝ }
+{
+    let count = starting_by(parts, address);
+    if count == 0 {
+        return Read::Absent;
+    }
+    let i = 3 * (count - 1);
+    let from = parts[i + 1] as usize;
+    let to = parts[i + 2] as usize;
+    read_bytes(&file[from..to], parts[i], address)
+}
+
+// The descriptor at a physical address. One part of the file is tried before the others are searched, so that a capture of one bank
+// costs one comparison for each descriptor.
+pub fn read(file: &[u8], front: Part, parts: &[u64], address: u64) -> Read
+    requires { ⌜ Calls.Held front (now parts) (now file) ⌝ }
+    ensures { λ r. ⌜ ((reader : Reader) →
+        r ≡ Calls.captured front (now (parts .entry)) (now (file .entry)) (record { reader = reader; address = address })) ⌝ }
+{
+    let from = front.from;
+    let to = front.to;
+    let found = read_bytes(&file[from..to], front.address, address);
+    match found {
+        Read::Word(x) => Read::Word(x),
+        Read::Absent => read_parts(file, parts, address),
+    }
+}
+
+// What a file of some bytes has of a bank. No sum wraps.
+pub fn of_bank(length: u64, address: u64, offset: u64, size: u64) -> Part
+    ensures { λ p. ⌜ p ≡ Captures.part length (record { address = address; offset = offset; size = size }) ⌝ }
+{
+    let from = least(offset, length);
+    let left = length - from;
+    let to = from + least(size, left);
+    Part {
+        address,
+        from: from as usize,
+        to: to as usize,
+    }
+}
+
+// How many bytes of a bank that is.
+pub fn kept(p: Part) -> u64
+    requires { ⌜ p .from ≤ p .to ⌝ }
+    ensures { λ n. ⌜ n ≡ Captures.kept p ⌝ }
+{
+    let from = p.from;
+    let to = p.to;
+    (to - from) as u64
+}
+
+// The whole of a file that stands at an address.
+pub fn whole(address: u64, length: usize) -> Part
+    ensures { λ p. ⌜ p ≡ record { address = address; from = 0; to = length } ⌝ }
+{
+    Part {
+        address,
+        from: 0,
+        to: length,
+    }
+}
+
+fn least(a: u64, b: u64) -> u64
+    ensures { λ r. ⌜ r ≡ Captures.least a b ⌝ }
+{
+    if a <= b { a } else { b }
+}
+
+// A bank's end lies past 2^48. No sum wraps.
+pub fn ends_high(address: u64, size: u64) -> bool
+    ensures { λ r. ⌜ r ≡ Captures.endsHigh address size ⌝ }
 {
     let top = 0x1_0000_0000_0000;
-    if base <= top {
-        top - base < length
+    if address <= top {
+        top - address < size
     } else {
         true
     }

@@ -8,13 +8,13 @@ use registers::El2;
 use registers::hcr::Hcr;
 
 // The lists of case M.
-const GRANTS: [u64; 2] = [0x9_0000, 0x4000_3000];
+pub(crate) const GRANTS: [u64; 2] = [0x9_0000, 0x4000_3000];
 
-const COUNTS: [u64; 2] = [0x1000, 0x3000];
+pub(crate) const COUNTS: [u64; 2] = [0x1000, 0x3000];
 
-const TABLES: [u64; 2] = [0x4000_1000, 0x4000_2000];
+pub(crate) const TABLES: [u64; 2] = [0x4000_1000, 0x4000_2000];
 
-const LEVELS: [u64; 2] = [2, 3];
+pub(crate) const LEVELS: [u64; 2] = [2, 3];
 
 // One audit and its answer in a line.
 pub(crate) fn audit(

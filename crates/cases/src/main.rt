@@ -1,4 +1,4 @@
-// Runs the cases of document 01, and the output size and the granules of document 02, on the proved question, batch and audit and prints a line for each.
+// Runs the cases of document 01, and core files, the output size and the granules of document 02, on the proved question, batch and audit and prints a line for each.
 use access::Access;
 use registers::El1;
 use registers::El2;
@@ -8,6 +8,7 @@ use registers::tcr::Tcr;
 use registers::vtcr::Vtcr;
 
 mod audits;
+mod cores;
 mod granules;
 mod image;
 mod print;
@@ -236,6 +237,7 @@ fn main() {
     g_to_l();
     beyond();
     audits::all();
+    cores::all();
     sizes::all();
     granules::all();
 }

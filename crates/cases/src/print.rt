@@ -142,6 +142,7 @@ fn refused(r: Refusal) {
         Refusal::BatchLists => text(b"refused 14, batch lists"),
         Refusal::AuditLists => text(b"refused 15, audit lists"),
         Refusal::NoRoot => text(b"refused 16, no usable stage 2 root"),
+        Refusal::CoreFile => text(b"refused 17, core file"),
     }
 }
 

@@ -11,7 +11,7 @@ use Rattle.walk.specs.declared.stop.Missing.{Missing}
 use Rattle.walk.specs.declared.stop.Open.{Open}
 use Rattle.answers.specs.Answers.{address, stage, level, on-walk, reads, stageNumber, onWalk, ipaOf, carries}
 use Rattle.answers.specs.declared.Refusal.{Refusal}
-use Rattle.answers.specs.declared.Refusal.the-variants.{ShortLog, HighCapture, Settings, Unlisted, BatchLists, AuditLists, NoRoot}
+use Rattle.answers.specs.declared.Refusal.the-variants.{ShortLog, HighCapture, Settings, Unlisted, BatchLists, AuditLists, NoRoot, CoreFile}
 use Rattle.answers.specs.declared.Answer.the-variants as A
 use Rattle.exported.specs.Words.{spelled, listedAt, wordAt, worded}
 use Rattle.exported.specs.Parts.{onWalkWord, ipaWord, itemWord, stopped, refused}
@@ -55,3 +55,4 @@ refused-words number Unlisted = refl
 refused-words number BatchLists = refl
 refused-words number AuditLists = refl
 refused-words number NoRoot = refl
+refused-words number CoreFile = refl

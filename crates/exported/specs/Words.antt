@@ -25,6 +25,11 @@ use Rattle.batch.specs.declared.BatchAnswer.the-variants.{Done, Refused}
 use Rattle.exported.specs.declared.Words.{Words}
 use Rattle.exported.specs.declared.BatchWords.{BatchWords}
 use Rattle.exported.specs.declared.AuditWords.{AuditWords}
+use Rattle.exported.specs.declared.BanksWords.{BanksWords}
+use Rattle.banks.specs.Banks.{banksNumber}
+use Rattle.banks.specs.declared.BanksAnswer.{BanksAnswer}
+use Rattle.banks.specs.declared.BanksAnswer.the-variants.{Listed}
+use Rattle.banks.specs.declared.BanksAnswer.the-variants as B
 use Rattle.audit.specs.Audit.{auditNumber}
 use Rattle.audit.specs.declared.AuditAnswer.{AuditAnswer}
 use Rattle.audit.specs.declared.AuditAnswer.the-variants.{Clean, Found}
@@ -118,6 +123,12 @@ unfoldable pub auditWords : AuditAnswer → AuditWords
 auditWords Clean = record { number = auditNumber Clean; item = 0; address = 0 }
 auditWords (Found f) = record { number = auditNumber (Found f); item = 0; address = f .address }
 auditWords (A.Refused r) = record { number = auditNumber (A.Refused r); item = getD (itemOf r) 0 0; address = 0 }
+
+-- ---- a bank list's answer: its number, and how many banks there are
+
+unfoldable pub banksWords : BanksAnswer → BanksWords
+banksWords (Listed n) = record { number = banksNumber (Listed n); count = n }
+banksWords (B.Refused r) = record { number = banksNumber (B.Refused r); count = 0 }
 
 -- the bytes that a line took, or 0 where the buffer was too short for it
 abbrev pub lineWord : LineAnswer → ℕ

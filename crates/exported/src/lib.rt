@@ -1,4 +1,5 @@
-// The question, the batch, the audit and the ledger's line as calls on numbers, structs of numbers and slices, for programs in C and Rust.
+// The question, the batch and the audit, each over a raw capture and over a core file, the list of a core file's banks and the ledger's line
+// as calls on numbers, structs of numbers and slices, for programs in C and Rust.
 // include/humpelkaas.h declares them for C.
 use access::Access;
 use answers::Answer;
@@ -8,6 +9,7 @@ use attributes::DeviceType;
 use attributes::MemoryType;
 use attributes::Shareability;
 use audit::AuditAnswer;
+use banks::BanksAnswer;
 use batch::BatchAnswer;
 use ledger::Ledger;
 use ledger::line;
@@ -24,6 +26,8 @@ ghost use Rattle.answers.specs.Question.{ask};
 ghost use Rattle.ledger.specs.Line.{lineInto};
 ghost use Rattle.batch.specs.Batch.{sharing, batch};
 ghost use Rattle.audit.specs.Audit.{audit};
+ghost use Rattle.banks.specs.Banks.{bankList};
+ghost use Rattle.layout.specs.Layout.{raw, core};
 ghost use Rattle.exported.specs.Words as Numbers;
 ghost use Rattle.exported.specs.Parts as Parts;
 
@@ -101,6 +105,7 @@ fn item_of(r: Refusal) -> u64
         Refusal::BatchLists => 0,
         Refusal::AuditLists => 0,
         Refusal::NoRoot => 0,
+        Refusal::CoreFile => 0,
     }
 }
 
@@ -265,10 +270,25 @@ pub extern "C" fn humpelkaas_translate(
     a: Access,
     log: &mut [u64],
 ) -> Words
-    ensures answered { λ w. ⌜ w ≡ Numbers.words (ask base (now (bytes .entry)) r g a (now (log .entry)) .answer) ⌝ }
-    ensures logged { λ w. ⌜ now (log .exit) ≡ ask base (now (bytes .entry)) r g a (now (log .entry)) .log ⌝ }
+    ensures answered { λ w. ⌜ w ≡ Numbers.words (ask (raw base) (now (bytes .entry)) r g a (now (log .entry)) .answer) ⌝ }
+    ensures logged { λ w. ⌜ now (log .exit) ≡ ask (raw base) (now (bytes .entry)) r g a (now (log .entry)) .log ⌝ }
 {
     in_words(question::translate(bytes, base, r, g, a, log))
+}
+
+// The question over a core file, by its bytes.
+#[no_mangle]
+pub extern "C" fn humpelkaas_core_translate(
+    file: &[u8],
+    r: El2,
+    g: El1,
+    a: Access,
+    log: &mut [u64],
+) -> Words
+    ensures answered { λ w. ⌜ w ≡ Numbers.words (ask core (now (file .entry)) r g a (now (log .entry)) .answer) ⌝ }
+    ensures logged { λ w. ⌜ now (log .exit) ≡ ask core (now (file .entry)) r g a (now (log .entry)) .log ⌝ }
+{
+    in_words(question::translate_core(file, r, g, a, log))
 }
 
 // A batch's answer in numbers: its own, a settings refusal's item, and its ledger, which is 0 throughout where it has none.
@@ -323,9 +343,9 @@ pub extern "C" fn humpelkaas_batch(
     outputs: &mut [u64],
     numbers: &mut [u64],
 ) -> BatchWords
-    ensures answered { λ w. ⌜ w ≡ Numbers.batchWords (batch base (now (bytes .entry)) (sharing r g kind el size) (now (addresses .entry)) (now (outputs .entry)) (now (numbers .entry)) .answer) ⌝ }
-    ensures placed { λ w. ⌜ now (outputs .exit) ≡ batch base (now (bytes .entry)) (sharing r g kind el size) (now (addresses .entry)) (now (outputs .entry)) (now (numbers .entry)) .outputs ⌝ }
-    ensures numbered { λ w. ⌜ now (numbers .exit) ≡ batch base (now (bytes .entry)) (sharing r g kind el size) (now (addresses .entry)) (now (outputs .entry)) (now (numbers .entry)) .numbers ⌝ }
+    ensures answered { λ w. ⌜ w ≡ Numbers.batchWords (batch (raw base) (now (bytes .entry)) (sharing r g kind el size) (now (addresses .entry)) (now (outputs .entry)) (now (numbers .entry)) .answer) ⌝ }
+    ensures placed { λ w. ⌜ now (outputs .exit) ≡ batch (raw base) (now (bytes .entry)) (sharing r g kind el size) (now (addresses .entry)) (now (outputs .entry)) (now (numbers .entry)) .outputs ⌝ }
+    ensures numbered { λ w. ⌜ now (numbers .exit) ≡ batch (raw base) (now (bytes .entry)) (sharing r g kind el size) (now (addresses .entry)) (now (outputs .entry)) (now (numbers .entry)) .numbers ⌝ }
 {
     batch_in_words(batch::run(
         bytes,
@@ -339,6 +359,26 @@ pub extern "C" fn humpelkaas_batch(
         outputs,
         numbers,
     ))
+}
+
+// The batch over a core file, by its bytes.
+#[no_mangle]
+pub extern "C" fn humpelkaas_core_batch(
+    file: &[u8],
+    r: El2,
+    g: El1,
+    kind: u64,
+    el: u64,
+    size: u64,
+    addresses: &[u64],
+    outputs: &mut [u64],
+    numbers: &mut [u64],
+) -> BatchWords
+    ensures answered { λ w. ⌜ w ≡ Numbers.batchWords (batch core (now (file .entry)) (sharing r g kind el size) (now (addresses .entry)) (now (outputs .entry)) (now (numbers .entry)) .answer) ⌝ }
+    ensures placed { λ w. ⌜ now (outputs .exit) ≡ batch core (now (file .entry)) (sharing r g kind el size) (now (addresses .entry)) (now (outputs .entry)) (now (numbers .entry)) .outputs ⌝ }
+    ensures numbered { λ w. ⌜ now (numbers .exit) ≡ batch core (now (file .entry)) (sharing r g kind el size) (now (addresses .entry)) (now (outputs .entry)) (now (numbers .entry)) .numbers ⌝ }
+{
+    batch_in_words(batch::run_core(file, r, g, kind, el, size, addresses, outputs, numbers))
 }
 
 // An audit's answer in numbers: its own, a settings refusal's item, and a finding's address.
@@ -383,9 +423,53 @@ pub extern "C" fn humpelkaas_audit(
     tables: &[u64],
     levels: &[u64],
 ) -> AuditWords
-    ensures answered { λ w. ⌜ w ≡ Numbers.auditWords (audit base (now (bytes .entry)) r (now (grants .entry)) (now (counts .entry)) (now (tables .entry)) (now (levels .entry))) ⌝ }
+    ensures answered { λ w. ⌜ w ≡ Numbers.auditWords (audit (raw base) (now (bytes .entry)) r (now (grants .entry)) (now (counts .entry)) (now (tables .entry)) (now (levels .entry))) ⌝ }
 {
     audit_in_words(audit::audit(bytes, base, r, grants, counts, tables, levels))
+}
+
+// The audit over a core file, by its bytes.
+#[no_mangle]
+pub extern "C" fn humpelkaas_core_audit(
+    file: &[u8],
+    r: El2,
+    grants: &[u64],
+    counts: &[u64],
+    tables: &[u64],
+    levels: &[u64],
+) -> AuditWords
+    ensures answered { λ w. ⌜ w ≡ Numbers.auditWords (audit core (now (file .entry)) r (now (grants .entry)) (now (counts .entry)) (now (tables .entry)) (now (levels .entry))) ⌝ }
+{
+    audit_in_words(audit::audit_core(file, r, grants, counts, tables, levels))
+}
+
+// A bank list's answer in numbers: its own, and how many banks there are.
+#[repr(C)]
+pub struct BanksWords {
+    pub number: u64,
+    pub count: u64,
+}
+
+fn banks_in_words(a: BanksAnswer) -> BanksWords
+    ensures { λ w. ⌜ w ≡ Numbers.banksWords a ⌝ }
+{
+    let number = banks::number(a);
+    match a {
+        BanksAnswer::Listed(count) => BanksWords { number, count },
+        BanksAnswer::Refused(_) => BanksWords { number, count: 0 },
+    }
+}
+
+// The banks of a core file. Each list has at least 64 words, of which the first are written.
+#[no_mangle]
+pub extern "C" fn humpelkaas_core_banks(
+    file: &[u8],
+    addresses: &mut [u64],
+    offsets: &mut [u64],
+    lengths: &mut [u64],
+    shorts: &mut [u64],
+) -> BanksWords {
+    banks_in_words(banks::list(file, addresses, offsets, lengths, shorts))
 }
 
 // The bytes written, or 0 for a buffer that is too short: no line is empty.

@@ -1,9 +1,11 @@
 -- Questions and audits over a sparse capture, and what 01's tables say of their answers.
 -- Assumes nothing.
+use mathlib.Core.Bool.{false}
 use mathlib.Core.List.{List, map}
 use Prim.Native.Nat.{ℕ}
 use lib.ListN.{replicate}
 use Rattle.access.specs.declared.Access.{Access}
+use Rattle.capture.specs.Capture.{endsHigh}
 use Rattle.capture.specs.Sparse.{sparse}
 use Rattle.answers.specs.Answers.{Value, number, carries}
 use Rattle.registers.specs.declared.El1.{El1}
@@ -33,10 +35,11 @@ before = 0x5A5A
 
 -- a question with a log of so many words
 unfoldable pub asked : Image → El2 → El1 → Access → (words : ℕ) → Row
-asked c r g a words = row (askOver (sparse (c .base) (c .length) (c .words)) (c .base) (c .length) r g a (replicate words before))
+asked c r g a words =
+    row (askOver (sparse (c .base) (c .length) (c .words)) false (endsHigh (c .base) (c .length)) r g a (replicate words before))
 
 unfoldable pub audited : Image → El2 → (grants counts tables levels : List ℕ) → AuditAnswer
-audited c = auditOver (sparse (c .base) (c .length) (c .words)) (c .base) (c .length)
+audited c = auditOver (sparse (c .base) (c .length) (c .words)) false (endsHigh (c .base) (c .length))
 
 -- with its lists pair by pair: grants (address, byte count), tables (address, level)
 abbrev pub auditedPairs : Image → El2 → (grants tables : List (ℕ × ℕ)) → AuditAnswer

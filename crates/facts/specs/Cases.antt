@@ -11,6 +11,7 @@ use Rattle.attributes.specs.declared.DeviceType.the-variants.{NGnRnE}
 use Rattle.attributes.specs.declared.Cacheability.the-variants.{WriteBack}
 use Rattle.attributes.specs.declared.MemoryType.the-variants.{Device, Normal}
 use Rattle.attributes.specs.declared.Shareability.the-variants.{OuterShareable, InnerShareable}
+use Rattle.capture.specs.Capture.{endsHigh}
 use Rattle.capture.specs.Sparse.{sparse}
 use Rattle.answers.specs.Answers.{Value, address, attributes, stage, level, level1, level2, on-walk, ipa, reads, item}
 use Rattle.registers.specs.declared.El1.{El1}
@@ -105,7 +106,7 @@ unfolding opened asked
 case-A = refl
 
 -- each of A's walks ends at level 3: three on-walk, stage 1's own before the last
-case-A-ends : askOver (sparse 0x40000000 0x8000 words) 0x40000000 0x8000 host guest (access 0x1008 0 0) (replicate 24 before) .ends ≡ 3 ∷ 3 ∷ 3 ∷ 3 ∷ 3 ∷ []
+case-A-ends : askOver (sparse 0x40000000 0x8000 words) false (endsHigh 0x40000000 0x8000) host guest (access 0x1008 0 0) (replicate 24 before) .ends ≡ 3 ∷ 3 ∷ 3 ∷ 3 ∷ 3 ∷ []
 unfolding opened
 case-A-ends = refl
 
@@ -258,7 +259,7 @@ shared = record { el2 = host; el1 = guest; kind = 0; el = 0; size = 8 }
 abbrev pub figures : Ledger
 figures = record { asked = 2; translated = 1; faulted = 1; absent = 0; unsettled = 0 }
 
-case-batch : batchOver (sparse 0x40000000 0x8000 words) 0x40000000 0x8000 shared (0x1008 ∷ 0x2000 ∷ []) (before ∷ before ∷ []) (before ∷ before ∷ [])
+case-batch : batchOver (sparse 0x40000000 0x8000 words) false (endsHigh 0x40000000 0x8000) shared (0x1008 ∷ 0x2000 ∷ []) (before ∷ before ∷ []) (before ∷ before ∷ [])
     ≡ record { answer = Batch.Done figures; outputs = 0x90008 ∷ 0 ∷ []; numbers = 0 ∷ 1 ∷ [] }
 unfolding opened
 case-batch = refl
@@ -278,13 +279,13 @@ unfolding opened
 case-line-short = refl
 
 -- an empty batch is accepted
-case-batch-empty : batchOver (sparse 0x40000000 0x8000 words) 0x40000000 0x8000 shared [] [] []
+case-batch-empty : batchOver (sparse 0x40000000 0x8000 words) false (endsHigh 0x40000000 0x8000) shared [] [] []
     ≡ record { answer = Batch.Done (record { asked = 0; translated = 0; faulted = 0; absent = 0; unsettled = 0 }); outputs = []; numbers = [] }
 unfolding opened
 case-batch-empty = refl
 
 -- lists of unequal length: nothing is written
-case-batch-refused : batchOver (sparse 0x40000000 0x8000 words) 0x40000000 0x8000 shared (0x1008 ∷ 0x2000 ∷ []) (before ∷ []) (before ∷ before ∷ [])
+case-batch-refused : batchOver (sparse 0x40000000 0x8000 words) false (endsHigh 0x40000000 0x8000) shared (0x1008 ∷ 0x2000 ∷ []) (before ∷ []) (before ∷ before ∷ [])
     ≡ record { answer = Batch.Refused BatchLists; outputs = before ∷ []; numbers = before ∷ before ∷ [] }
 unfolding opened
 case-batch-refused = refl
@@ -293,11 +294,11 @@ case-batch-refused = refl
 abbrev pub strange : Shared
 strange = record { el2 = registers 41 0 0 0 0; el1 = guest; kind = 0; el = 0; size = 8 }
 
-case-batch-order : batchOver (sparse 0x40000000 0x8000 words) 0x40000000 0x8000 strange (0x1008 ∷ []) [] [] .answer ≡ Batch.Refused BatchLists
+case-batch-order : batchOver (sparse 0x40000000 0x8000 words) false (endsHigh 0x40000000 0x8000) strange (0x1008 ∷ []) [] [] .answer ≡ Batch.Refused BatchLists
 unfolding opened
 case-batch-order = refl
 
-case-batch-settings : batchOver (sparse 0x40000000 0x8000 words) 0x40000000 0x8000 strange (0x1008 ∷ []) (before ∷ []) (before ∷ [])
+case-batch-settings : batchOver (sparse 0x40000000 0x8000 words) false (endsHigh 0x40000000 0x8000) strange (0x1008 ∷ []) (before ∷ []) (before ∷ [])
     ≡ record { answer = Batch.Refused (Settings 1); outputs = before ∷ []; numbers = before ∷ [] }
 unfolding opened
 case-batch-settings = refl

@@ -6,3 +6,4 @@ pub mod OutputSizes
 pub mod Granules
 pub mod GranuleRoots
 pub mod GranuleAudits
+pub mod CoreFiles

@@ -4,6 +4,7 @@ use crate::stage1::Opening;
 use crate::stage1::Prepared1;
 use access::Access;
 use attributes::Attributes;
+use capture::Part;
 use descriptor::entry;
 use descriptor::entry::FaultKind;
 use descriptor::turn;
@@ -25,7 +26,7 @@ ghost use lib.ListN.{length};
 ghost use Rattle.bits.specs.Bits.{pick};
 ghost use Rattle.reads.specs.Ran.{Ran};
 ghost use Rattle.access.specs.Access.{listedSize};
-ghost use Rattle.capture.specs.Capture.{captured};
+ghost use Rattle.capture.specs.Calls.{captured, Held};
 ghost use Rattle.walk.specs.Calls.{Sound2, stage2Of};
 ghost use Rattle.walk.specs.Ends as Ends;
 ghost use Rattle.stages.specs.declared.both.By.the-variants as Bys;
@@ -106,16 +107,17 @@ fn first(end: End) -> Arrival
 
 // From where it begins. Each turn takes one address through stage 2: that of a stage 1 descriptor, and at last that of stage 1's output.
 fn walk1(
-    bytes: &[u8],
-    base: u64,
+    file: &[u8],
+    front: Part,
+    parts: &[u64],
     p: Prepared1,
     q: Prepared2,
     a: Access,
     o: Opening,
     log: &mut [u64],
 ) -> Arrival
-    requires { ⌜ Sound2 q × (listedSize (a .size) ≡ true) × (base + length (now bytes) ≤ 2 ^ 64) × (24 ≤ length (now log)) × Calls.Opens p a o × (Ends.passed (o .ending) ≡ true) ⌝ }
-    ensures { λ r. ⌜ Ran (captured base (now (bytes .entry))) (Stages.access (Calls.stage1Of p) (stage2Of q) a) (now (log .entry)) 0 (Calls.arrived (Calls.stage1Of p) (stage2Of q) a r) (r .end .count) (now (log .exit)) × (r .end .count ≤ 24) ⌝ }
+    requires { ⌜ Sound2 q × (listedSize (a .size) ≡ true) × Held front (now parts) (now file) × (24 ≤ length (now log)) × Calls.Opens p a o × (Ends.passed (o .ending) ≡ true) ⌝ }
+    ensures { λ r. ⌜ Ran (captured front (now (parts .entry)) (now (file .entry))) (Stages.access (Calls.stage1Of p) (stage2Of q) a) (now (log .entry)) 0 (Calls.arrived (Calls.stage1Of p) (stage2Of q) a r) (r .end .count) (now (log .exit)) × (r .end .count ≤ 24) ⌝ }
 {
     let input = a.address;
     let on = q.on;
@@ -135,7 +137,7 @@ fn walk1(
     loop {
         let mut at = ipa;
         if on {
-            let r = stage2::translate2(bytes, base, q, a, walking, ipa, log, k);
+            let r = stage2::translate2(file, front, parts, q, a, walking, ipa, log, k);
             let ending = r.ending;
             if !end::passed(ending) {
                 return Arrival {
@@ -160,7 +162,7 @@ fn walk1(
         } else if !walking {
             return unplaced(ipa, left, word1, k);
         }
-        match capture::read(bytes, base, at) {
+        match capture::read(file, front, parts, at) {
             Read::Absent => {
                 return first(End {
                     ending: Ending::Absent,
@@ -196,21 +198,22 @@ fn walk1(
 
 // An access, from prepared stages.
 pub fn access(
-    bytes: &[u8],
-    base: u64,
+    file: &[u8],
+    front: Part,
+    parts: &[u64],
     p: Prepared1,
     q: Prepared2,
     a: Access,
     log: &mut [u64],
 ) -> Arrival
-    requires { ⌜ Calls.Sound1 p × Sound2 q × (listedSize (a .size) ≡ true) × (base + length (now bytes) ≤ 2 ^ 64) × (24 ≤ length (now log)) ⌝ }
-    ensures { λ r. ⌜ Ran (captured base (now (bytes .entry))) (Stages.access (Calls.stage1Of p) (stage2Of q) a) (now (log .entry)) 0 (Calls.arrived (Calls.stage1Of p) (stage2Of q) a r) (r .end .count) (now (log .exit)) × (r .end .count ≤ 24) ⌝ }
+    requires { ⌜ Calls.Sound1 p × Sound2 q × (listedSize (a .size) ≡ true) × Held front (now parts) (now file) × (24 ≤ length (now log)) ⌝ }
+    ensures { λ r. ⌜ Ran (captured front (now (parts .entry)) (now (file .entry))) (Stages.access (Calls.stage1Of p) (stage2Of q) a) (now (log .entry)) 0 (Calls.arrived (Calls.stage1Of p) (stage2Of q) a r) (r .end .count) (now (log .exit)) × (r .end .count ≤ 24) ⌝ }
 {
     let o = stage1::opening_of(p, a);
     let ending = o.ending;
     let level = o.level;
     if end::passed(ending) {
-        walk1(bytes, base, p, q, a, o, log)
+        walk1(file, front, parts, p, q, a, o, log)
     } else {
         first(end::stopped(ending, level, 0))
     }

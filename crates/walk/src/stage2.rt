@@ -7,6 +7,7 @@ use crate::start::Start;
 use crate::table::Root;
 use access::Access;
 use attributes::MemoryClass;
+use capture::Part;
 use descriptor::entry;
 use descriptor::permission;
 use descriptor::turn;
@@ -19,7 +20,7 @@ ghost use Rattle.reads.specs.Program.{done, bind};
 ghost use Rattle.reads.specs.Ran.{Ran};
 ghost use Rattle.access.specs.Access.{isFetch, listedSize};
 ghost use Rattle.attributes.specs.Attributes.{classOf, stage2Attributes};
-ghost use Rattle.capture.specs.Capture.{captured};
+ghost use Rattle.capture.specs.Calls.{captured, Held};
 ghost use Rattle.walk.specs.Walk.{walkFrom};
 ghost use Rattle.walk.specs.Checks.{misaligned, give};
 ghost use Rattle.walk.specs.Stage2 as Definitions;
@@ -89,8 +90,9 @@ fn check2(p: Prepared2, a: Access, onwalk: bool, x: u64) -> Ending
 
 // From the root down; each read's address goes into the log from count on.
 fn walk2(
-    bytes: &[u8],
-    base: u64,
+    file: &[u8],
+    front: Part,
+    parts: &[u64],
     p: Prepared2,
     a: Access,
     onwalk: bool,
@@ -98,8 +100,8 @@ fn walk2(
     log: &mut [u64],
     count: usize,
 ) -> End
-    requires { ⌜ Fit (p .start) × (listedSize (a .size) ≡ true) × (base + length (now bytes) ≤ 2 ^ 64) × (count + p .start .table .levels ≤ length (now log)) ⌝ }
-    ensures { λ r. ⌜ Ran (captured base (now (bytes .entry))) (bind (walkFrom done (Stages.Two ipa onwalk) ipa (Roots.Usable (p .start .table))) (λ l. give (Definitions.check2 (stage2Of p) a onwalk ipa l))) (now (log .entry)) count (Ends.ended (Stages.Two ipa onwalk) (stage2Attributes (Definitions.uncached2 (stage2Of p) a onwalk)) r) (r .count) (now (log .exit)) × (r .count ≤ count + p .start .table .levels) ⌝ }
+    requires { ⌜ Fit (p .start) × (listedSize (a .size) ≡ true) × Held front (now parts) (now file) × (count + p .start .table .levels ≤ length (now log)) ⌝ }
+    ensures { λ r. ⌜ Ran (captured front (now (parts .entry)) (now (file .entry))) (bind (walkFrom done (Stages.Two ipa onwalk) ipa (Roots.Usable (p .start .table))) (λ l. give (Definitions.check2 (stage2Of p) a onwalk ipa l))) (now (log .entry)) count (Ends.ended (Stages.Two ipa onwalk) (stage2Attributes (Definitions.uncached2 (stage2Of p) a onwalk)) r) (r .count) (now (log .exit)) × (r .count ≤ count + p .start .table .levels) ⌝ }
 {
     let start = p.start;
     let masks = start.masks;
@@ -112,7 +114,7 @@ fn walk2(
     let mut at = start::first_entry(table, shift, ipa);
     let mut k = count;
     loop {
-        match capture::read(bytes, base, at) {
+        match capture::read(file, front, parts, at) {
             Read::Absent => {
                 return End {
                     ending: Ending::Absent,
@@ -148,8 +150,9 @@ fn walk2(
 
 // Where stage 2 puts an IPA.
 pub fn translate2(
-    bytes: &[u8],
-    base: u64,
+    file: &[u8],
+    front: Part,
+    parts: &[u64],
     p: Prepared2,
     a: Access,
     onwalk: bool,
@@ -157,8 +160,8 @@ pub fn translate2(
     log: &mut [u64],
     count: usize,
 ) -> End
-    requires { ⌜ Sound2 p × (listedSize (a .size) ≡ true) × (base + length (now bytes) ≤ 2 ^ 64) × (count + 4 ≤ length (now log)) × (p .on ≡ true) ⌝ }
-    ensures { λ r. ⌜ Ran (captured base (now (bytes .entry))) (Definitions.translate2 (stage2Of p) a onwalk ipa) (now (log .entry)) count (Ends.ended (Stages.Two ipa onwalk) (stage2Attributes (Definitions.uncached2 (stage2Of p) a onwalk)) r) (r .count) (now (log .exit)) × (r .count ≤ count + 4) ⌝ }
+    requires { ⌜ Sound2 p × (listedSize (a .size) ≡ true) × Held front (now parts) (now file) × (count + 4 ≤ length (now log)) × (p .on ≡ true) ⌝ }
+    ensures { λ r. ⌜ Ran (captured front (now (parts .entry)) (now (file .entry))) (Definitions.translate2 (stage2Of p) a onwalk ipa) (now (log .entry)) count (Ends.ended (Stages.Two ipa onwalk) (stage2Attributes (Definitions.uncached2 (stage2Of p) a onwalk)) r) (r .count) (now (log .exit)) × (r .count ≤ count + 4) ⌝ }
 {
     let above = p.above;
     let start = p.start;
@@ -167,7 +170,7 @@ pub fn translate2(
         return end::stopped(Ending::Translation, 0, count);
     }
     if end::passed(ending) {
-        walk2(bytes, base, p, a, onwalk, ipa, log, count)
+        walk2(file, front, parts, p, a, onwalk, ipa, log, count)
     } else {
         end::stopped(ending, start.level, count)
     }

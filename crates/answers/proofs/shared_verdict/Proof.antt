@@ -12,18 +12,15 @@ unfolding refuse pick
 shared-verdict-spec =
     tie.close
     (tie.spec
-    (λ c κs. search needs)
-    (λ c. rw (← c .before .ends-high .ensures, c .if1 .taken))
+    (λ c. rw (c .if1 .taken))
     (λ c κs. search needs)
     (λ c.
     let item = c .before .of-question in
-    rw (← c .before .before .before .ends-high .ensures, c .before .before .if1 .left, ← item .ensures, ne-eqb _ _ (c .if2 .taken)))
+    rw (c .before .before .if1 .left, ← item .ensures, ne-eqb _ _ (c .if2 .taken)))
     (λ c κs. search needs)
     (λ c.
     let item = c .before .before .before .of-question in
-    let high = c .before .before .before .before .before in
-    rw (← high .ends-high .ensures, c .before .before .before .before .if1 .left, ← item .ensures, eq-eqb _ _ (c .before .before .if2 .left), ← c .before .listed .ensures, c .if3 .taken))
+    rw (c .before .before .before .before .if1 .left, ← item .ensures, eq-eqb _ _ (c .before .before .if2 .left), ← c .before .listed .ensures, c .if3 .taken))
     (λ c.
     let item = c .before .before .before .of-question in
-    let high = c .before .before .before .before .before in
-    rw (← high .ends-high .ensures, c .before .before .before .before .if1 .left, ← item .ensures, eq-eqb _ _ (c .before .before .if2 .left), ← c .before .listed .ensures, c .if3 .left)))
+    rw (c .before .before .before .before .if1 .left, ← item .ensures, eq-eqb _ _ (c .before .before .if2 .left), ← c .before .listed .ensures, c .if3 .left)))

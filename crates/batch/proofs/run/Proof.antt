@@ -1,63 +1,29 @@
--- `run` meets its contract: the verdict, and then each address.
+-- `run` meets its contract: a raw capture is one part, the whole of it.
 -- Assumes nothing.
 use borrow.Author.Needs.{needs}
-use mathlib.Core.Path.{sym, ap, _∙_}
-use lib.ListN.{length}
-use Rattle.answers.proofs.Refusals.{accepted-settings, accepted-capture, accepted-size}
-use Rattle.ledger.specs.Ledger.{ledger}
+use mathlib.Core.Path.{_≡_, sym, _∙_}
+use denote.Ref.{now}
+use Rattle.layout.proofs.Raw.{raw-held}
 use Rattle.batch.proofs.Promises.{promised}
-use Rattle.batch.proofs.Telling.{equal-lists, tells-lists, tells-refused, tells-filled}
+use Rattle.batch.proofs.Telling.{raw-tells}
 use Rattle.batch.proofs.run.Statement.{statement}
 use Rattle.batch.proofs.run.Tie as tie
-
-returns : tie.Need-returns
-returns c = (tells-lists _ _ _ _ _ _ (sym (c .before .unequal .ensures) ∙ c .if1 .taken), promised _ _ _ _ _ _)
-
-each-requires : tie.Need-each-requires
-each-requires c κs =
-    let told = c .before .before .before in
-    let v = told .before .before in
-    let lists = v .before .before in
-    let z = lists .before .before .before .before .before .args in
-    let accepted = sym (v .shared-verdict .ensures) ∙ told .enum-told .given .1 in
-    let equal = equal-lists (length (z .addresses .now)) (length (z .outputs .now)) (length (z .numbers .now)) (sym (lists .unequal .ensures) ∙ v .before .if1 .left) in (
-      accepted-settings (z .base) (length (z .bytes .now)) (z .r) (z .g) (z .kind) (z .el) (z .size) accepted,
-      accepted-size (z .base) (length (z .bytes .now)) (z .r) (z .g) (z .kind) (z .el) (z .size) accepted,
-      accepted-capture (z .base) (length (z .bytes .now)) (z .r) (z .g) (z .kind) (z .el) (z .size) accepted,
-      search needs,
-      equal .0,
-      equal .1,
-    )
-
-returns-2 : tie.Need-returns-2
-returns-2 c =
-    let v = c .before .before .before in
-    (tells-refused _ _ _ _ _ _ (sym (v .before .before .unequal .ensures) ∙ v .before .if1 .left) _ (sym (v .shared-verdict .ensures) ∙ c .before .verdict .given .1), promised _ _ _ _ _ _)
-
-returns-3 : tie.Need-returns-3
-returns-3 c =
-    let each = c .before .before .before .before .before .before .before in
-    let told = each .before .before .before .before in
-    let v = told .before .before in
-    let e = each .each .ensures in (
-      tells-filled _ _ _ _ _ _ (sym (v .before .before .unequal .ensures) ∙ v .before .if1 .left) (sym (v .shared-verdict .ensures) ∙ told .enum-told .given .1) _ _ _
-          (record { figures = c .count .ensures ∙ ap ledger (e .numbered); placed = e .placed; numbered = e .numbered }),
-      promised _ _ _ _ _ _,
-    )
 
 pub run-spec : {M : Type 1} → statement M
 run-spec =
     tie.close
     (tie.spec
     (λ c κs. search needs)
-    returns
     (λ c κs. search needs)
     (λ c. search needs)
     (λ c. search needs)
     (λ c. search needs)
-    each-requires
-    (λ c κs. search needs)
-    returns-2
+    (λ c κs low.
+    let z = c .before .before .before .before .before .before .before .before .before .before in
+    rw (c .before .before .before .before .before .whole .ensures) (raw-held (z .args .base) (now (z .args .bytes)) (sym (c .before .before .before .before .ends-high .ensures) ∙ low)))
     (λ c. search needs)
     (λ c. search needs)
-    returns-3)
+    (λ c.
+    let z = c .before .before .before .before .before .before .before .before .before .before .before .before .before .before .before in
+    let o = c .before .before .before .before in
+    (raw-tells _ _ _ _ (z .args .base) (now (z .args .bytes)) (rw (o .before .before .before .before .before .before .whole .ensures, o .before .before .before .before .before .ends-high .ensures) at (o .over .ensures)), promised _ _ _ _ _ _)))

@@ -1,50 +1,29 @@
--- `capture::read` meets its contract: the test on the wrapped difference picks the case of `memory`.
+-- `capture::read` meets its contract: what the part in front has is there, and what it has not is left to the others.
 -- Assumes nothing.
 use borrow.Author.Needs.{needs}
-use borrow.Author.Tests.{le-leb, lt-leb, leb-true}
 use native.Mathlib.Omega.{arith}
-use mathlib.Core.Path.{_≡_, refl, ap, _∙_}
-use mathlib.Core.Bool.{Bool, true, false}
-use Prim.Native.Nat.{ℕ, _+_, _-_, _%_, _^_, _≤_, _<_}
-use lib.Dec.{leb}
-use lib.ListN.{length}
+use mathlib.Core.Path.{_≡_, sym, _∙_}
 use denote.Ref.{now}
-use Rattle.bits.specs.Bits.{pick}
-use Rattle.reads.specs.declared.Read.the-variants.{Word}
-use Rattle.capture.specs.Capture.{within, memory}
-use Rattle.capture.proofs.Spelled.{eight}
+use Rattle.capture.proofs.Searches.{kept-bytes, alone, front-has, front-lacks}
 use Rattle.capture.proofs.read.Statement.{statement}
 use Rattle.capture.proofs.read.Tie as tie
 
--- a difference past the places is that of an address below base, or too near the end
-outside : (base n address at : ℕ) → (at + base) % 2 ^ 64 ≡ address → at < 2 ^ 64 → n - 7 ≤ at → within base n address ≡ false
-unfolding within
-outside base n address at e fits past = by-test (leb base address) refl
-  where
-    by-test : (b : Bool) → leb base address ≡ b → within base n address ≡ false
-    by-test true t =
-        let h : base ≤ address = leb-true _ _ t in
-        let k : base + n < address + 8 = omega arith in
-        simp (t, lt-leb)
-    by-test false t = rw t
-
 pub read-spec : {M : Type 1} → statement M
-unfolding memory within pick
 read-spec =
     tie.close
     (tie.spec
+    (λ c. search needs)
+    (λ c. search needs)
+    (λ c. search needs)
     (λ c κs. search needs)
-    (λ c κs. search needs)
+    (λ c. search needs)
+    (λ c. search needs)
     (λ c κs. search needs)
     (λ c reader.
-    let a = c .before .before .before .before .before .args in
-    let at = c .before .before .wrapping-sub-u64 .result in
-    let h : a .base ≤ a .address = omega arith in
-    let k : a .address + 8 ≤ a .base + length (now (a .bytes)) = omega arith in
-    let e : at ≡ a .address - a .base = omega arith in
-    simp le-leb (ap Word (c .word .ensures ∙ rw e (eight (a .address - a .base) (now (a .bytes)) (omega arith)))))
+    let z = c .before .before .before .before .before .before .before in
+    let r = c .before .before .before .read-bytes .ensures in
+    front-has _ _ _ _ (sym (alone _ (now (z .args .file)) (z .pre .lies) _) ∙ sym r ∙ c .before .found .given .1))
     (λ c reader.
-    let a = c .before .before .before .before .args in
-    let at = c .before .wrapping-sub-u64 .result in
-    let h : length (now (a .bytes)) - 7 ≤ at = omega arith in
-    simp (outside (a .base) (length (now (a .bytes))) (a .address) at (c .before .wrapping-sub-u64 .ensures) (omega arith) h)))
+    let z = c .before .before .before .before .before .before .before in
+    let r = c .before .before .before .read-bytes .ensures in
+    c .read-parts .ensures reader ∙ front-lacks _ _ _ _ (sym (alone _ (now (z .args .file)) (z .pre .lies) _) ∙ sym r ∙ c .before .enum-told .given .1)))

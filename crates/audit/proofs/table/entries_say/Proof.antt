@@ -4,7 +4,7 @@ use borrow.Author.Needs.{needs}
 use borrow.Author.Tests.{not-true, not-false}
 use mathlib.Core.Path.{sym, ap, _∙_}
 use native.Mathlib.Omega.{arith}
-use Rattle.capture.specs.Capture.{captured}
+use Rattle.capture.specs.Calls.{captured}
 use Rattle.lists.specs.Lists.{zip}
 use Rattle.audit.specs.Calls.{entrySays, isClean}
 use Rattle.audit.proofs.Calls.{Left, left-all, left-next, left-found, left-none}
@@ -12,10 +12,10 @@ use Rattle.audit.proofs.table.entries_say.Statement.{statement}
 use Rattle.audit.proofs.table.entries_say.Tie as tie
 
 abbrev Inv-loop : tie.InvT-loop
-Inv-loop bytes base grants counts tables levels g n entries table left₀ at₀ left at = Left (entrySays (captured base bytes) g (zip grants counts) (zip tables levels) n) entries table left at
+Inv-loop file front parts grants counts tables levels g n entries table left₀ at₀ left at = Left (entrySays (captured front parts file) g (zip grants counts) (zip tables levels) n) entries table left at
 
 abbrev μ-loop : tie.MeasureT-loop
-μ-loop bytes base grants counts tables levels g n entries table left₀ at₀ left at = left
+μ-loop file front parts grants counts tables levels g n entries table left₀ at₀ left at = left
 
 pub entries-say-spec : {M : Type 1} → statement M
 entries-say-spec =
@@ -24,13 +24,13 @@ entries-say-spec =
     Inv-loop
     μ-loop
     (λ c. left-all _ _ _)
-    (λ c κs. let p = c .before .before .before .before .before .before .before .pre in (p .0, p .1, p .2, p .3))
+    (λ c κs. let p = c .before .before .before .before .before .before .before .before .pre in (p .0, p .1, p .2, p .3))
     (λ c κs. search needs)
     (λ c.
     let l = c .before .before .before in
     c .before .before .entry-says .ensures ∙ left-found _ _ _ (l .loop-test .taken) (rw (← c .before .before .entry-says .ensures) (sym (c .before .is-clean .ensures) ∙ not-true _ (c .if1 .taken))) (l .before .loop .inv))
     (λ c. search needs)
-    (λ c. let l = c .before .before .before in record { fits = omega (arith, l .loop-test .taken, l .before .loop .inv .ends, l .before .before .before .before .before .before .before .pre .4) })
+    (λ c. let l = c .before .before .before in record { fits = omega (arith, l .loop-test .taken, l .before .loop .inv .ends, l .before .before .before .before .before .before .before .before .pre .4) })
     (λ c. omega (arith, c .before .before .before .loop-test .taken))
     (λ c.
     let l = c .before .before .before in

@@ -11,9 +11,9 @@ unfolding examine
 entry-says-spec =
     tie.close
     (tie.spec
-    (λ c κs. c .before .before .before .before .before .pre .3)
+    (λ c κs. c .before .before .before .before .before .before .pre .3)
     (λ c. search needs)
     (λ c. search needs)
-    (λ c κs. let p = c .before .before .before .before .before .before .before .before .before .pre in (p .0, p .1, p .2))
+    (λ c κs. let p = c .before .before .before .before .before .before .before .before .before .before .pre in (p .0, p .1, p .2))
     (λ c. rw (← c .before .before .read .ensures stage-2, c .enum-told .given .1))
     (λ c. rw (← c .before .before .before .before .read .ensures stage-2, c .before .before .x .given .1) (c .examine .ensures)))

@@ -7,7 +7,7 @@ use Prim.Native.Nat.{_-_, _*_, _^_, _≤_, _<_}
 use native.Mathlib.Nat.{mul-le-mul}
 use native.Mathlib.Omega.{arith}
 use lib.ListN.{length, getD}
-use Rattle.capture.specs.Capture.{captured}
+use Rattle.capture.specs.Calls.{captured}
 use Rattle.lists.specs.Lists.{zip}
 use Rattle.lists.proofs.Pairs.{tables-fit}
 use Rattle.audit.proofs.Calls.{table-bounds, Listing, listing-next, listing-found, listing-over}
@@ -15,22 +15,22 @@ use Rattle.audit.proofs.table.listed_tables.Statement.{statement}
 use Rattle.audit.proofs.table.listed_tables.Tie as tie
 
 abbrev Inv-loop : tie.InvT-loop
-Inv-loop bytes base grants counts tables levels g stride i₀ i = Listing (captured base bytes) g (zip grants counts) tables levels i
+Inv-loop file front parts grants counts tables levels g stride i₀ i = Listing (captured front parts file) g (zip grants counts) tables levels i
 
 abbrev μ-loop : tie.MeasureT-loop
-μ-loop bytes base grants counts tables levels g stride i₀ i = length tables - i
+μ-loop file front parts grants counts tables levels g stride i₀ i = length tables - i
 
 -- where the table at i lies, and at which level
 bounds : (c : tie.In-loop Inv-loop μ-loop) →
-    let z = c .before .before .before .before .before .before .before .args in
+    let z = c .before .before .before .before .before .before .before .before .args in
     let i = c .before .loop .i in
     (getD (z .tables .now) i 0 < 2 ^ 48) × (1 ≤ getD (z .levels .now) i 0) × (getD (z .levels .now) i 0 ≤ 3)
-bounds c = let l = c .before .before .before .before .before .before .before .pre .0 .listed in table-bounds _ _ _ (l .some) (tables-fit l .fits _ (c .loop-test .taken))
+bounds c = let l = c .before .before .before .before .before .before .before .before .pre .0 .listed in table-bounds _ _ _ (l .some) (tables-fit l .fits _ (c .loop-test .taken))
 
 one-table-requires : tie.Need-one-table-requires Inv-loop μ-loop
 one-table-requires c κs =
     let l = c .before .before in
-    let k = l .before .before .before .before .before .before .before in
+    let k = l .before .before .before .before .before .before .before .before in
     let b = bounds l in
     let few : 3 - getD (k .args .levels .now) (l .before .loop .i) 0 ≤ 2 = omega (arith, b .1) in
     let low : k .args .g .stride * (3 - getD (k .args .levels .now) (l .before .loop .i) 0) ≤ 13 * 2 = mul-le-mul (k .pre .2) few in
@@ -42,7 +42,7 @@ listed-tables-spec =
     (tie.spec
     Inv-loop
     μ-loop
-    (λ c. record { same = tables-fit (c .before .before .before .before .before .pre .0 .listed) .same; rest = refl })
+    (λ c. record { same = tables-fit (c .before .before .before .before .before .before .pre .0 .listed) .same; rest = refl })
     (λ c. search needs)
     (λ c. search needs)
     (λ c. bounds (c .before) .2)

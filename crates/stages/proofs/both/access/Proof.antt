@@ -10,7 +10,7 @@ use Rattle.stages.proofs.both.access.Tie as tie
 walk1-requires : tie.Need-walk1-requires
 walk1-requires c κs =
     let o = c .before .before .before in
-    let p = o .before .before .before .pre in
+    let p = o .before .before .before .before .pre in
     (p .1, p .2, p .3, p .4, o .opening-of .ensures, sym (c .before .before .passed .ensures) ∙ c .before .if1 .taken)
 
 returns-2 : tie.Need-returns-2
@@ -22,7 +22,7 @@ pub access-spec : {M : Type 1} → statement M
 access-spec =
     tie.close
     (tie.spec
-    (λ c κs. let p = c .before .before .pre in (p .0, p .2))
+    (λ c κs. let p = c .before .before .before .pre in (p .0, p .2))
     (λ c κs. search needs)
     walk1-requires
     (λ c κs. search needs)

@@ -13,7 +13,7 @@ use Rattle.reads.specs.Program.{stage-1}
 use Rattle.reads.proofs.Ran.{ran-length}
 use Rattle.descriptor.specs.Entry.{shift}
 use Rattle.descriptor.proofs.Turns.{down-more}
-use Rattle.capture.specs.Capture.{captured}
+use Rattle.capture.specs.Calls.{captured}
 use Rattle.walk.specs.Ends.{passed}
 use Rattle.walk.specs.Calls.{Fit, stage2Of}
 use Rattle.walk.proofs.Turns.{is-down}
@@ -24,22 +24,22 @@ use Rattle.stages.proofs.both.walk1.Statement.{statement}
 use Rattle.stages.proofs.both.walk1.Tie as tie
 
 abbrev Inv-loop : tie.InvT-loop
-Inv-loop bytes base p q a log₀ input on masks g stride levels walking₀ left₀ shift₀ ipa₀ tables₀ word1₀ k₀ log walking left shift ipa tables word1 k =
-    Going (captured base bytes) (stage1Of p) (stage2Of q) a g log₀ log walking left shift ipa tables word1 k
+Inv-loop file front parts p q a log₀ input on masks g stride levels walking₀ left₀ shift₀ ipa₀ tables₀ word1₀ k₀ log walking left shift ipa tables word1 k =
+    Going (captured front parts file) (stage1Of p) (stage2Of q) a g log₀ log walking left shift ipa tables word1 k
 
 -- the levels that are left, while there is a walk
 abbrev μ-loop : tie.MeasureT-loop
-μ-loop bytes base p q a log₀ input on masks g stride levels walking₀ left₀ shift₀ ipa₀ tables₀ word1₀ k₀ log walking left shift ipa tables word1 k = pick walking (suc left) 0
+μ-loop file front parts p q a log₀ input on masks g stride levels walking₀ left₀ shift₀ ipa₀ tables₀ word1₀ k₀ log walking left shift ipa tables word1 k = pick walking (suc left) 0
 
 loop-holds : tie.Need-loop-holds Inv-loop μ-loop
-loop-holds c = let x = c .before .before .before .before .before .before in opens-going _ _ _ _ _ _ (x .pre .4) (x .pre .5)
+loop-holds c = let x = c .before .before .before .before .before .before .before in opens-going _ _ _ _ _ _ (x .pre .4) (x .pre .5)
 
 -- ---- stage 2 ends the access
 
 translate2-requires : tie.Need-translate2-requires Inv-loop μ-loop
 translate2-requires c κs =
     let l = c .before .before in
-    let p = l .before .before .before .before .before .before .before .pre in
+    let p = l .before .before .before .before .before .before .before .before .pre in
     (p .0, p .1, p .2, omega (arith, going-few (l .loop .inv), going-same (l .loop .inv), p .3), c .before .if1 .taken)
 
 returns : tie.Need-returns Inv-loop μ-loop
@@ -72,9 +72,9 @@ returns-3 c =
 -- ---- in a turn that walks
 
 placed : (c : tie.Joined1 Inv-loop μ-loop) →
-    let x = c .before .before .before .before .before .before .before .before .args in
+    let x = c .before .before .before .before .before .before .before .before .before .args in
     let l = c .before .loop in
-    Placed (captured (x .base) (x .bytes .now)) (stage2Of (x .q)) (x .a) (l .walking) (l .ipa) (l .log) (l .k) (c .if1 .at) (c .if1 .k) (c .if1 .log)
+    Placed (captured (x .front) (x .parts .now) (x .file .now)) (stage2Of (x .q)) (x .a) (l .walking) (l .ipa) (l .log) (l .k) (c .if1 .at) (c .if1 .k) (c .if1 .log)
 placed c =
     ⊎-elim
     (λ w. rw (w .8, w .9, w .10) (placed-on (c .before .loop .inv) (seconded-on _ _ _ _ (w .0 .taken) _ _ (w .2 .ensures .0)) (sym (w .5 .ensures) ∙ not-false _ (w .6 .left)) (not-false _ (w .7 .left)) (w .2 .ensures .1)))
@@ -82,13 +82,13 @@ placed c =
     (c .if1 .came)
 
 -- the walk starts at a root that is of use
-fit : (c : tie.Joined1 Inv-loop μ-loop) → Fit (c .before .before .before .before .before .before .before .before .args .o .start)
+fit : (c : tie.Joined1 Inv-loop μ-loop) → Fit (c .before .before .before .before .before .before .before .before .before .args .o .start)
 fit c =
-    let x = c .before .before .before .before .before .before .before .before in
+    let x = c .before .before .before .before .before .before .before .before .before in
     opens-fit _ _ _ (x .pre .4) (x .pre .5) (going-on (c .before .loop .inv) (placed c .walks)) .1
 
 -- where its entry stands
-entry : (c : tie.Joined1 Inv-loop μ-loop) → let l = c .before .loop in let g = c .before .before .before .before .before .before .before .before .args .o .start .table .geometry in (l .left ≤ 3) × (l .shift ≡ shift g (l .left)) × (l .shift < 48) × (l .k + 5 * suc (l .left) ≤ 20)
+entry : (c : tie.Joined1 Inv-loop μ-loop) → let l = c .before .loop in let g = c .before .before .before .before .before .before .before .before .before .args .o .start .table .geometry in (l .left ≤ 3) × (l .shift ≡ shift g (l .left)) × (l .shift < 48) × (l .k + 5 * suc (l .left) ≤ 20)
 entry c = going-entry (c .before .loop .inv) (placed c .walks)
 
 -- at most 19 reads so far
@@ -96,7 +96,7 @@ few : (c : tie.Joined1 Inv-loop μ-loop) → c .if1 .k ≤ 19
 few c = omega (arith, placed c .few, entry c .3)
 
 -- the log is as long as it was
-long : (c : tie.Joined1 Inv-loop μ-loop) → length (c .if1 .log) ≡ length (c .before .before .before .before .before .before .before .before .args .log .now)
+long : (c : tie.Joined1 Inv-loop μ-loop) → length (c .if1 .log) ≡ length (c .before .before .before .before .before .before .before .before .before .args .log .now)
 long c = ran-length (placed c .run) ∙ going-same (c .before .loop .inv)
 
 returns-4 : tie.Need-returns-4 Inv-loop μ-loop
@@ -116,7 +116,7 @@ more c = down-more _ _ _ (sym (c .before .before .turn .ensures) ∙ is-down _ (
 sub-shift : tie.Need-sub-shift Inv-loop μ-loop
 sub-shift c =
     let j = c .before .before .before .before .before .before .before .before in
-    let g = j .before .before .before .before .before .before .before .before .args .o .start .table .geometry in
+    let g = j .before .before .before .before .before .before .before .before .before .args .o .start .table .geometry in
     let once : g .stride * 1 ≤ g .stride * j .before .loop .left = mul-le-mul (le-refl _) (more c) in
     omega (arith, entry j .1)
 
@@ -171,7 +171,7 @@ walk1-spec =
     (tie.spec
     Inv-loop
     μ-loop
-    (λ c. let x = c .before .before .before .before .before .before in opens-within _ _ _ (x .pre .4) .some)
+    (λ c. let x = c .before .before .before .before .before .before .before in opens-within _ _ _ (x .pre .4) .some)
     loop-holds
     translate2-requires
     (λ c κs. search needs)
@@ -183,7 +183,7 @@ walk1-spec =
     (λ c κs. search needs)
     (λ c. ran-length (returns-3 c .0))
     returns-3
-    (λ c κs. c .before .before .before .before .before .before .before .before .pre .2)
+    (λ c κs. c .before .before .before .before .before .before .before .before .before .pre .2)
     (λ c. search needs)
     (λ c. entry (c .before .before .before) .0)
     (λ c κs. search needs)
@@ -191,7 +191,7 @@ walk1-spec =
     returns-4
     (λ c. search needs)
     (λ c. record { fits = omega (arith, few (c .before .before .before .before .before)) })
-    (λ c. let j = c .before .before .before .before .before in omega (arith, few j, long j, j .before .before .before .before .before .before .before .before .pre .3))
+    (λ c. let j = c .before .before .before .before .before in omega (arith, few j, long j, j .before .before .before .before .before .before .before .before .before .pre .3))
     (λ c. record { fits = omega (arith, few (c .before .before .before .before .before)) })
     turn-requires
     (λ c κs. search needs)
@@ -200,7 +200,7 @@ walk1-spec =
     next-entry-requires
     loop-less
     loop-again
-    (λ c κs. c .before .before .before .before .before .before .before .before .before .before .before .before .before .before .before .before .pre .1)
+    (λ c κs. c .before .before .before .before .before .before .before .before .before .before .before .before .before .before .before .before .before .pre .1)
     (λ c κs. search needs)
     (λ c κs. entry (c .before .before .before .before .before .before .before .before .before .before .before) .2)
     loop-less-2

@@ -18,29 +18,29 @@ use Rattle.walk.proofs.stage2.translate2.Statement.{statement}
 use Rattle.walk.proofs.stage2.translate2.Tie as tie
 
 -- the IPA lies within the input size
-inside : (c : tie.Else1) → let z = c .before .before .before .before .args in beyond (z .ipa) (z .p .inputsize) ≡ false
+inside : (c : tie.Else1) → let z = c .before .before .before .before .before .args in beyond (z .ipa) (z .p .inputsize) ≡ false
 inside c =
-    let z = c .before .before .before .before .args in
-    sym (beyond-above (z .ipa) (z .p .inputsize)) ∙ ap not (eq-eqb _ _ (rw (c .before .before .before .before .pre .0 .above (c .before .before .before .before .pre .4)) at (c .if1 .left)))
+    let z = c .before .before .before .before .before .args in
+    sym (beyond-above (z .ipa) (z .p .inputsize)) ∙ ap not (eq-eqb _ _ (rw (c .before .before .before .before .before .pre .0 .above (c .before .before .before .before .before .pre .4)) at (c .if1 .left)))
 
 -- the walk from a root that is of use
-usable : (c : tie.After-walk2-arg) → let p = c .before .before .before .before .before .before .before .args .p in (rootOf (p .start) ≡ Usable (p .start .table)) × Fit (p .start)
-usable c = starts-usable _ _ (c .before .before .before .before .before .before .before .pre .0 .start) (sym (c .before .before .passed .ensures) ∙ c .before .if2 .taken)
+usable : (c : tie.After-walk2-arg) → let p = c .before .before .before .before .before .before .before .before .args .p in (rootOf (p .start) ≡ Usable (p .start .table)) × Fit (p .start)
+usable c = starts-usable _ _ (c .before .before .before .before .before .before .before .before .pre .0 .start) (sym (c .before .before .passed .ensures) ∙ c .before .if2 .taken)
 
 returns : tie.Need-returns
 unfolding faulted
 returns c =
-    let z = c .before .before .before .before .before .args in
+    let z = c .before .before .before .before .before .before .args in
     rw (c .stopped .ensures)
     ((
       ran-outside _ (stage2Of (z .p)) (z .a) (z .onwalk) (z .ipa) (stage2Attributes (uncached2 (stage2Of (z .p)) (z .a) (z .onwalk)))
-          (sym (beyond-above (z .ipa) (z .p .inputsize)) ∙ ap not (ne-eqb _ _ (rw (c .before .before .before .before .before .pre .0 .above (c .before .before .before .before .before .pre .4)) at (c .before .if1 .taken)))),
+          (sym (beyond-above (z .ipa) (z .p .inputsize)) ∙ ap not (ne-eqb _ _ (rw (c .before .before .before .before .before .before .pre .0 .above (c .before .before .before .before .before .before .pre .4)) at (c .before .if1 .taken)))),
       omega arith,
     ))
 
 walk2-requires : tie.Need-walk2-requires
 walk2-requires c κs =
-    let p = c .before .before .before .before .before .before .before .pre in
+    let p = c .before .before .before .before .before .before .before .before .pre in
     (usable c .1, p .1, p .2, omega (arith, usable c .1 .small .levels, p .3))
 
 returns-2 : tie.Need-returns-2
@@ -53,8 +53,8 @@ returns-2 c =
 
 returns-3 : tie.Need-returns-3
 returns-3 c =
-    let z = c .before .before .before .before .before .before .before .args in
-    let u = starts-unusable _ _ (c .before .before .before .before .before .before .before .pre .0 .start) (sym (c .before .before .passed .ensures) ∙ c .before .if2 .left) in
+    let z = c .before .before .before .before .before .before .before .before .args in
+    let u = starts-unusable _ _ (c .before .before .before .before .before .before .before .before .pre .0 .start) (sym (c .before .before .passed .ensures) ∙ c .before .if2 .left) in
     rw (c .stopped2 .ensures) ((ran-unusable _ (stage2Of (z .p)) (z .a) (z .onwalk) (z .ipa) (inside (c .before .before .before)) (stage2Attributes (uncached2 (stage2Of (z .p)) (z .a) (z .onwalk))) (u .0) _ (u .1) (u .2), omega arith))
 
 pub translate2-spec : {M : Type 1} → statement M

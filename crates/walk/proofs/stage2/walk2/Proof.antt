@@ -16,7 +16,7 @@ use Rattle.reads.proofs.Ran.{ran-done}
 use Rattle.descriptor.specs.Entry.{nothing, decode, outputAddress}
 use Rattle.descriptor.specs.Turn.{turnOf}
 use Rattle.descriptor.proofs.Turns.{down-more}
-use Rattle.capture.specs.Capture.{captured}
+use Rattle.capture.specs.Calls.{captured}
 use Rattle.bits.specs.Bits.{pick}
 use Rattle.walk.specs.declared.stop.Stage.the-variants.{Two}
 use Rattle.walk.specs.Walk.{entryAddress}
@@ -44,27 +44,27 @@ leaf-checked m s a w ipa l e log k address word level ending =
     (ran-give m _ log k)
 
 abbrev Inv-loop : tie.InvT-loop
-Inv-loop bytes base p a onwalk ipa log₀ count masks g stride levels left₀ shift₀ at₀ k₀ log left shift at k =
-    Walking (captured base bytes) done g (Two ipa onwalk) ipa (entering (captured base bytes) done g (Two ipa onwalk) ipa left₀ at₀ nothing) log₀ count log k left shift at nothing
+Inv-loop file front parts p a onwalk ipa log₀ count masks g stride levels left₀ shift₀ at₀ k₀ log left shift at k =
+    Walking (captured front parts file) done g (Two ipa onwalk) ipa (entering (captured front parts file) done g (Two ipa onwalk) ipa left₀ at₀ nothing) log₀ count log k left shift at nothing
     × (k + left ≤ count + left₀) × (k < length log₀)
 
 abbrev μ-loop : tie.MeasureT-loop
-μ-loop bytes base p a onwalk ipa log₀ count masks g stride levels left₀ shift₀ at₀ k₀ log left shift at k = left
+μ-loop file front parts p a onwalk ipa log₀ count masks g stride levels left₀ shift₀ at₀ k₀ log left shift at k = left
 
 first-entry-requires : tie.Need-first-entry-requires Inv-loop μ-loop
 first-entry-requires c κs =
-    let f = c .before .before .before .before .before .before .pre .0 in
+    let f = c .before .before .before .before .before .before .before .pre .0 in
     (omega (arith, f .shift, f .small .shift), f .small .bits, f .small .base)
 
 loop-holds : tie.Need-loop-holds Inv-loop μ-loop
 loop-holds c =
-    let p = c .before .before .before .before .before .before .before .pre in
+    let p = c .before .before .before .before .before .before .before .before .pre in
     let f = p .0 in
     (record { few = omega (arith, f .small .levels); shifted = f .shift; low = omega (arith, f .shift, f .small .shift); same = refl; rest = λ r. r }, omega arith, omega (arith, f .small .some, p .3))
 
 turn-requires : tie.Need-turn-requires Inv-loop μ-loop
 turn-requires c κs =
-    let f = c .before .before .before .before .before .before .before .before .before .before .before .before .pre .0 in
+    let f = c .before .before .before .before .before .before .before .before .before .before .before .before .before .pre .0 in
     (f .masks, f .small .block)
 
 -- an entry that leads down has a level below it
@@ -74,13 +74,13 @@ more c = down-more _ _ _ (sym (c .before .before .turn .ensures) ∙ is-down _ (
 stride-left : tie.Need-sub-shift Inv-loop μ-loop
 stride-left c =
     let l = c .before .before .before .before .before .before .before in
-    let once : l .before .before .before .before .before .before .before .before .args .p .start .table .geometry .stride * 1 ≤ l .before .before .before .before .before .before .before .before .args .p .start .table .geometry .stride * l .loop .left = mul-le-mul (le-refl _) (more c) in
+    let once : l .before .before .before .before .before .before .before .before .before .args .p .start .table .geometry .stride * 1 ≤ l .before .before .before .before .before .before .before .before .before .args .p .start .table .geometry .stride * l .loop .left = mul-le-mul (le-refl _) (more c) in
     omega (arith, l .loop .inv .0 .shifted)
 
 next-entry-requires : tie.Need-next-entry-requires Inv-loop μ-loop
 next-entry-requires c κs =
     let l = c .before .before .before .before .before .before .before in
-    let f = l .before .before .before .before .before .before .before .before .pre .0 in
+    let f = l .before .before .before .before .before .before .before .before .before .pre .0 in
     (f .masks, f .small .grainsize, f .small .stride, omega (arith, l .loop .inv .0 .low))
 
 loop-again : tie.Need-loop-again Inv-loop μ-loop
@@ -92,21 +92,21 @@ loop-again c =
     ((
       walking-down (l .loop .inv .0) (ran-done _ _ _ _) (sym (r .read .ensures stage-2) ∙ b .before .before .before .before .x .given .1) (rw (b .before .before .turn .ensures) at (sym (b .before .leads-down .ensures) ∙ b .if1 .taken)) (more b),
       omega (arith, more b, l .loop .inv .1),
-      omega (arith, more b, l .loop .inv .1, l .before .before .before .before .before .before .before .before .pre .3, l .before .before .before .before .before .before .before .before .pre .0 .small .some),
+      omega (arith, more b, l .loop .inv .1, l .before .before .before .before .before .before .before .before .before .pre .3, l .before .before .before .before .before .before .before .before .before .pre .0 .small .some),
     ))
 
 -- the root's entry
 first : (c : tie.At-loop Inv-loop μ-loop) →
-    let z = c .before .before .before .before .before .before .before .before .args in
+    let z = c .before .before .before .before .before .before .before .before .before .args in
     c .before .first-entry .result ≡ entryAddress (z .p .start .table .geometry) (z .p .start .table .levels - 1) (z .p .start .table .bits) (z .p .start .table .base) (z .ipa)
-first c = rw (c .before .before .before .before .before .before .before .before .pre .0 .shift) at (c .before .first-entry .ensures)
+first c = rw (c .before .before .before .before .before .before .before .before .before .pre .0 .shift) at (c .before .first-entry .ensures)
 
 returns : tie.Need-returns Inv-loop μ-loop
 unfolding pick outcome stopBy
 returns c =
     let l = c .before .before .before in
-    let p = l .before .before .before .before .before .before .before .before .pre in (
-      from-stopped _ done _ _ _ (l .before .before .before .before .before .before .before .before .args .p .start .table) refl (p .0 .small .some) _ (first l)
+    let p = l .before .before .before .before .before .before .before .before .before .pre in (
+      from-stopped _ done _ _ _ (l .before .before .before .before .before .before .before .before .before .args .p .start .table) refl (p .0 .small .some) _ (first l)
           (walking-absent (l .loop .inv .0) (ran-done _ _ _ _) (sym (c .before .before .read .ensures stage-2) ∙ c .enum-told .given .1)),
       omega (arith, l .loop .inv .1),
     )
@@ -115,8 +115,8 @@ returns-2 : tie.Need-returns-2 Inv-loop μ-loop
 returns-2 c =
     let r = c .before .before .before .before .before .before .before .before .before .before in
     let l = r .before in
-    let z = l .before .before .before .before .before .before .before .before .args in
-    let p = l .before .before .before .before .before .before .before .before .pre in (
+    let z = l .before .before .before .before .before .before .before .before .before .args in
+    let p = l .before .before .before .before .before .before .before .before .before .pre in (
       from-leaf _ done _ _ _ (z .p .start .table) refl (p .0 .small .some) _ (first l)
           (walking-leaf (l .loop .inv .0) (ran-done _ _ _ _) (sym (r .read .ensures stage-2) ∙ c .before .before .before .before .before .before .before .before .x .given .1) (rw (c .before .before .before .before .before .before .turn .ensures) at (sym (c .before .before .before .is-leaf .ensures) ∙ c .before .before .if2 .taken)))
           (leaf-checked _ _ _ _ _ _ _ _ _ (rw (l .loop .inv .0 .shifted) at (c .output-address .ensures)) refl refl (c .before .check2 .ensures)),
@@ -127,8 +127,8 @@ returns-3 : tie.Need-returns-3 Inv-loop μ-loop
 returns-3 c =
     let r = c .before .before .before .before .before .before .before .before .before .before in
     let l = r .before in
-    let z = l .before .before .before .before .before .before .before .before .args in
-    let p = l .before .before .before .before .before .before .before .before .pre in
+    let z = l .before .before .before .before .before .before .before .before .before .args in
+    let p = l .before .before .before .before .before .before .before .before .before .pre in
     let t = c .before .before .before .before .before .before in
     let down = rw (t .turn .ensures) at (sym (c .before .before .before .before .before .leads-down .ensures) ∙ c .before .before .before .before .if1 .left) in
     let leaf = rw (t .turn .ensures) at (sym (c .before .before .before .is-leaf .ensures) ∙ c .before .before .if2 .left) in
@@ -146,10 +146,10 @@ walk2-spec =
     (tie.spec
     Inv-loop
     μ-loop
-    (λ c. c .before .before .before .before .before .before .pre .0 .small .some)
+    (λ c. c .before .before .before .before .before .before .before .pre .0 .small .some)
     first-entry-requires
     loop-holds
-    (λ c κs. c .before .before .before .before .before .before .before .before .pre .2)
+    (λ c κs. c .before .before .before .before .before .before .before .before .before .pre .2)
     (λ c. search needs)
     (λ c. c .before .before .before .loop .inv .0 .few)
     (λ c. c .before .before .before .loop .inv .0 .same)
@@ -166,7 +166,7 @@ walk2-spec =
     (λ c. omega (arith, more (c .before)))
     loop-again
     (λ c κs. search needs)
-    (λ c κs. c .before .before .before .before .before .before .before .before .before .before .before .before .before .before .before .before .before .pre .1)
+    (λ c κs. c .before .before .before .before .before .before .before .before .before .before .before .before .before .before .before .before .before .before .pre .1)
     (λ c κs. c .before .before .before .before .before .before .before .before .before .before .loop .inv .0 .low)
     (λ c. c .before .before .before .before .before .before .before .before .before .before .before .loop .inv .0 .few)
     (λ c. let l = c .before .before .before .before .before .before .before .before .before .before .before in length-set (l .loop .log) (l .loop .k) (l .loop .at) ∙ l .loop .inv .0 .same)

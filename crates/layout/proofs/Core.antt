@@ -1,0 +1,54 @@
+-- A core file: what code reads of an accepted one.
+-- Assumes nothing.
+use mathlib.Core.Path.{_≡_, sym, ap, fun-ext, _∙_}
+use mathlib.Core.Bool.{true, false, _&&_}
+use mathlib.Core.List.{List, _∷_}
+use Prim.Native.Nat.{ℕ, _*_, _-_, _≤_}
+use native.Mathlib.Omega.{arith}
+use lib.Dec.{leb}
+use lib.ListN.{length, take}
+use borrow.Author.Tests.{leb-true}
+use Rattle.bits.proofs.Tests.{and-left, and-right}
+use Rattle.capture.specs.Capture.{anyHigh, memory}
+use Rattle.capture.specs.Calls as Calls
+use Rattle.capture.specs.Calls.{Held}
+use Rattle.layout.specs.Elf.{headed, banks, parts, isCore}
+use Rattle.layout.specs.Layout.{core, layout, captured}
+use Rattle.layout.specs.Calls.{partWords, frontOf, Lays}
+use Rattle.layout.specs.declared.Laid.{Laid}
+use Rattle.layout.proofs.Parts.{parts-by, laid-held, front-spare}
+
+pub core-captured : (file : List ℕ) → captured core file ≡ Calls.captured (frontOf (parts file)) (partWords (parts file)) file
+unfolding layout
+core-captured file = sym (ap (λ l. memory (frontOf (parts file) ∷ l) file) (parts-by (parts file)) ∙ fun-ext (λ q. front-spare (parts file) file q))
+
+-- ---- a call that laid out a file that is accepted
+
+module _ {file words′ : List ℕ} {r : Laid} (l : Lays file r words′) (readable : r .readable ≡ true) where
+  pub accepted : isCore file ≡ true
+  accepted = sym (l .readable) ∙ readable
+
+  pub few : r .count ≤ 64
+  unfolding isCore
+  few = omega (arith, l .count accepted, leb-true (length (banks file)) 64 (and-right (headed file) _ (and-left (headed file && leb (length (banks file)) 64) _ accepted)))
+
+  -- the words that are lent on, and what is read of them
+  abbrev pub lent : List ℕ
+  lent = take (3 * r .count - 0) words′
+
+  lent-words : lent ≡ partWords (parts file)
+  lent-words = let n : 3 * r .count - 0 ≡ 3 * length (banks file) = omega (arith, l .count accepted) in rw n (l .written accepted)
+
+  pub held : r .high ≡ false → Held (r .front) lent file
+  held low = rw (l .front accepted, lent-words) (laid-held file accepted (sym (l .high accepted) ∙ low))
+
+  pub laid-captured : Calls.captured (r .front) lent file ≡ captured core file
+  laid-captured = rw (l .front accepted, lent-words) (sym (core-captured file))
+
+  pub laid-high : r .high ≡ anyHigh (layout core file .banks)
+  unfolding layout
+  laid-high = l .high accepted
+
+  pub laid-readable : false ≡ layout core file .unreadable
+  unfolding layout
+  laid-readable = rw accepted

@@ -1,0 +1,214 @@
+-- Banks and parts by the words that they were written as, and what is known of the parts of an accepted core file.
+-- Assumes nothing.
+use mathlib.Core.Path.{_≡_, refl, sym, ap₂, _∙_, subst}
+use mathlib.Core.Bool.{Bool, true, false, _&&_, _||_, true≢false}
+use mathlib.Core.List.{List, [], _∷_, _++_, map, append-nil}
+use Prim.Native.Nat.{ℕ, zero, suc, _+_, _*_, _^_, _≤_, _<_}
+use native.Mathlib.Nat.{zero-add}
+use native.Mathlib.Omega.{arith}
+use lib.Dec.{leb}
+use lib.ListN.{length, getD, take, drop, length-map}
+use lib.Seq.{sets, sets-eq, take-append-seam}
+use borrow.Author.Tests.{le-leb, lt-leb, leb-true, ltb-false}
+use Rattle.bits.specs.Bits.{pick}
+use Rattle.bits.proofs.Tests.{and-left, and-right}
+use Rattle.reads.specs.Program.{Request, All, nil, cons}
+use Rattle.reads.specs.declared.Read.{Read}
+use Rattle.capture.specs.Capture.{Bank, part, kept, endsHigh, anyHigh, within, memory}
+use Rattle.capture.specs.Calls.{partAt, partsFrom, countOf, partsBy, Lies, Held}
+use Rattle.capture.specs.declared.Part.{Part}
+use Rattle.capture.proofs.Lesser.{part-lies}
+use Rattle.layout.specs.Elf.{headed, banks, mostBanks, follows, ascend, parts, wellLaid, isCore}
+use Rattle.layout.specs.Calls.{saidWords, partWords, bankBy, banksOn, banksBy, frontOf}
+
+-- ---- lists by their words
+
+-- three words are dropped at once
+three : (a b c : ℕ) (l : List ℕ) (i k : ℕ) → getD (a ∷ b ∷ c ∷ l) (3 * suc i + k) 0 ≡ getD l (3 * i + k) 0
+three a b c l i k =
+    let e : 3 * suc i + k ≡ suc (suc (suc (3 * i + k))) = omega arith in
+    rw e
+
+three-0 : (a b c : ℕ) (l : List ℕ) (i : ℕ) → getD (a ∷ b ∷ c ∷ l) (3 * suc i) 0 ≡ getD l (3 * i) 0
+three-0 a b c l i =
+    let e : 3 * suc i ≡ suc (suc (suc (3 * i))) = omega arith in
+    rw e
+
+bank-past : (a b c : ℕ) (l : List ℕ) (i : ℕ) → bankBy (a ∷ b ∷ c ∷ l) (suc i) ≡ bankBy l i
+bank-past a b c l i = rw (three-0 a b c l i, three a b c l i 1, three a b c l i 2)
+
+part-past : (a b c : ℕ) (l : List ℕ) (i : ℕ) → partAt (a ∷ b ∷ c ∷ l) (suc i) ≡ partAt l i
+part-past a b c l i = rw (three-0 a b c l i, three a b c l i 1, three a b c l i 2)
+
+banks-past : (a b c : ℕ) (l : List ℕ) (i n : ℕ) → banksOn (a ∷ b ∷ c ∷ l) (suc i) n ≡ banksOn l i n
+unfolding banksOn
+banks-past a b c l i zero = refl
+banks-past a b c l i (suc n) = ap₂ _∷_ (bank-past a b c l i) (banks-past a b c l (suc i) n)
+
+parts-past : (a b c : ℕ) (l : List ℕ) (i n : ℕ) → partsFrom (a ∷ b ∷ c ∷ l) (suc i) n ≡ partsFrom l i n
+unfolding partsFrom
+parts-past a b c l i zero = refl
+parts-past a b c l i (suc n) = ap₂ _∷_ (part-past a b c l i) (parts-past a b c l (suc i) n)
+
+-- how many words there are
+pub said-length : (l : List Bank) → length (saidWords l) ≡ 3 * length l
+unfolding saidWords
+said-length [] = refl
+said-length (b ∷ l) = let e = said-length l in omega arith
+
+pub part-length : (l : List Part) → length (partWords l) ≡ 3 * length l
+unfolding partWords
+part-length [] = refl
+part-length (p ∷ l) = let e = part-length l in omega arith
+
+-- the banks that were written, whatever stands after them
+pub banks-said : (l : List Bank) (rest : List ℕ) → banksOn (saidWords l ++ rest) 0 (length l) ≡ l
+unfolding banksOn saidWords
+banks-said [] rest = refl
+banks-said (b ∷ l) rest = ap₂ _∷_ refl (banks-past (b .address) (b .offset) (b .size) (saidWords l ++ rest) 0 (length l) ∙ banks-said l rest)
+
+parts-written : (l : List Part) → partsFrom (partWords l) 0 (length l) ≡ l
+unfolding partsFrom partWords
+parts-written [] = refl
+parts-written (p ∷ l) = ap₂ _∷_ refl (parts-past (p .address) (p .from) (p .to) (partWords l) 0 (length l) ∙ parts-written l)
+
+part-count : (l : List Part) → countOf (partWords l) ≡ length l
+part-count l = let e = part-length l in omega arith
+
+pub parts-by : (l : List Part) → partsBy (partWords l) ≡ l
+parts-by l = rw (part-count l) (parts-written l)
+
+pub banks-by : (l : List Bank) → banksBy (saidWords l) ≡ l
+banks-by l =
+    let e = said-length l in
+    let n : countOf (saidWords l) ≡ length l = omega arith in
+    rw n (rw (append-nil (saidWords l)) at (banks-said l []))
+
+-- words over the first of others
+over : (vs words : List ℕ) → length vs ≤ length words → sets words 0 vs ≡ vs ++ drop (length vs) words
+over vs words h = rw (zero-add (length vs)) at (sets-eq vs words 0 (omega arith))
+
+first : (vs words : List ℕ) (n : ℕ) → length vs ≡ n → n ≤ length words → take n (sets words 0 vs) ≡ vs
+first vs words n e h = rw (over vs words (omega arith), ← e) (take-append-seam vs _)
+
+module _ (words : List ℕ) where
+  pub said-first : (l : List Bank) → 3 * length l ≤ length words → take (3 * length l) (sets words 0 (saidWords l)) ≡ saidWords l
+  said-first l = first (saidWords l) words (3 * length l) (said-length l)
+
+  pub parts-first : (l : List Part) → 3 * length l ≤ length words → take (3 * length l) (sets words 0 (partWords l)) ≡ partWords l
+  parts-first l = first (partWords l) words (3 * length l) (part-length l)
+
+  pub banks-first : (l : List Bank) → 3 * length l ≤ length words → banksOn (sets words 0 (saidWords l)) 0 (length l) ≡ l
+  banks-first l h =
+      let e = said-length l in
+      rw (over (saidWords l) words (omega arith)) (banks-said l _)
+
+-- ---- an accepted core file whose banks end by 2^48
+
+or-false : (a b : Bool) → (a || b) ≡ false → (a ≡ false) × (b ≡ false)
+or-false true b e = absurd (true≢false e)
+or-false false b e = (refl, e)
+
+part-inside : (total : ℕ) (b : Bank) → endsHigh (b .address) (b .size) ≡ false → Lies total (part total b)
+unfolding part
+part-inside total b low =
+    let l = part-lies total b in
+    let top : b .address + b .size ≤ 2 ^ 48 = ltb-false _ _ low in
+    record { order = l .0; inside = l .1; fits = omega (arith, l .2) }
+
+pub all-inside : (total : ℕ) (l : List Bank) → anyHigh l ≡ false → All (Lies total) (map (part total) l)
+unfolding anyHigh
+all-inside total [] low = nil
+all-inside total (b ∷ l) low =
+    let both = or-false (endsHigh (b .address) (b .size)) (anyHigh l) low in
+    cons (part-inside total b (both .0)) (all-inside total l (both .1))
+
+pub all-lie : (file : List ℕ) (l : List Bank) → anyHigh l ≡ false → All (Lies (length file)) (map (part (length file)) l)
+all-lie file = all-inside (length file)
+
+-- what holds of each part holds of the part at each place of the words, and of the first
+at-each : {P : Part → Type 0} (l : List Part) → All P l → (i : ℕ) → i < length l → P (partAt (partWords l) i)
+unfolding partWords
+at-each [] a i h = absurd (omega arith)
+at-each (p ∷ l) (cons x a) zero h = x
+at-each (p ∷ l) (cons x a) (suc i) h = rw (part-past (p .address) (p .from) (p .to) (partWords l) i) (at-each l a i (omega arith))
+
+front-lies : (total : ℕ) (l : List Part) → All (Lies total) l → Lies total (frontOf l)
+unfolding frontOf
+front-lies total [] a = record { order = omega arith; inside = omega arith; fits = omega arith }
+front-lies total (p ∷ l) (cons x a) = x
+
+-- banks in order: each starts at or past the end of any before it
+abbrev Before : Part → Part → Type 0
+Before p q = p .address + kept p ≤ q .address
+
+module _ (total : ℕ) where
+  abbrev placed : List Bank → ℕ → Part
+  placed l i = partAt (partWords (map (part total) l)) i
+
+  next-past : (b : Bank) (l : List Bank) (i : ℕ) → placed (b ∷ l) (suc i) ≡ placed l i
+  unfolding partWords
+  next-past b l i = part-past _ _ _ (partWords (map (part total) l)) i
+
+  starts-past : (b : Bank) (l : List Bank) → follows b l ≡ true → ascend l ≡ true → (j : ℕ) → j < length l → b .address + b .size ≤ placed l j .address
+  unfolding follows ascend partWords part
+  starts-past b [] f a j h = absurd (omega arith)
+  starts-past b (c ∷ l) f a zero h = leb-true _ _ f
+  starts-past b (c ∷ l) f a (suc j) h =
+      let k : b .address + b .size ≤ c .address = leb-true _ _ f in
+      let m = starts-past c l (and-left _ _ a) (and-right (follows c l) _ a) j (omega arith) in
+      subst (λ (p : Part). b .address + b .size ≤ p .address) (sym (next-past c l j)) (omega (arith, m))
+
+  in-order : (l : List Bank) → ascend l ≡ true → (i j : ℕ) → i < j → j < length l → Before (placed l i) (placed l j)
+  unfolding ascend partWords part
+  in-order [] a i j less h = absurd (omega arith)
+  in-order (b ∷ l) a i zero less h = absurd (omega arith)
+  in-order (b ∷ l) a zero (suc j) less h =
+      let m = starts-past b l (and-left _ _ a) (and-right (follows b l) _ a) j (omega arith) in
+      let k = part-lies total b .2 in
+      subst (λ (p : Part). Before (part total b) p) (sym (next-past b l j)) (omega (arith, m, k))
+  in-order (b ∷ l) a (suc i) (suc j) less h =
+      let rest = in-order l (and-right (follows b l) _ a) i j (omega arith) (omega arith) in
+      subst (λ (p : Part). Before p (placed (b ∷ l) (suc j))) (sym (next-past b l i)) (subst (λ (p : Part). Before (placed l i) p) (sym (next-past b l j)) rest)
+
+core-ascends : (file : List ℕ) → isCore file ≡ true → ascend (banks file) ≡ true
+unfolding isCore wellLaid
+core-ascends file e = and-left _ _ (and-left _ _ (and-left _ _ (and-right (headed file && leb (length (banks file)) mostBanks) _ e)))
+
+pub laid-held : (file : List ℕ) → isCore file ≡ true → anyHigh (banks file) ≡ false → Held (frontOf (parts file)) (partWords (parts file)) file
+laid-held file e low =
+    let lie = all-lie file (banks file) low in
+    let n : countOf (partWords (parts file)) ≡ length (banks file) = part-count (parts file) ∙ length-map (banks file) (part (length file)) in
+    record {
+      lies = front-lies (length file) (parts file) lie;
+      ascending =
+          record {
+            lie = λ i h. at-each (parts file) lie i (rw (part-count (parts file)) at h);
+            order = λ i j less h. in-order (length file) (banks file) (core-ascends file e) i j less (rw n at h);
+          };
+    }
+
+-- ---- a part that is tried twice
+
+-- no byte has no descriptor
+misses-all : (a : ℕ) → within 0 0 a ≡ false
+unfolding within
+misses-all a =
+    let first : 0 ≤ a = omega arith in
+    let past : 0 < a + 8 = omega arith in
+    rw (le-leb 0 a first, lt-leb (a + 8) 0 past)
+
+twice : (b : Bool) (x y : Read) → pick b x (pick b x y) ≡ pick b x y
+unfolding pick
+twice true x y = refl
+twice false x y = refl
+
+pub front-spare : (l : List Part) (file : List ℕ) (q : Request) → memory (frontOf l ∷ l) file q ≡ memory l file q
+unfolding frontOf memory pick
+front-spare [] file q = rw (misses-all (q .address))
+front-spare (p ∷ l) file q = twice (within (p .address) (kept p) (q .address)) _ _
+
+-- a raw capture: one part, and none by words
+pub one-part : (p : Part) (file : List ℕ) → memory (p ∷ partsBy []) file ≡ memory (p ∷ []) file
+unfolding partsFrom
+one-part p file = refl

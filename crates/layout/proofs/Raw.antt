@@ -1,0 +1,48 @@
+-- A raw capture: one part, the whole of it, that may be read where it does not end high.
+-- Assumes nothing.
+use mathlib.Core.Path.{_≡_, refl, sym, ap, ap₂}
+use mathlib.Core.Bool.{Bool, true, false, _||_}
+use mathlib.Core.List.{List, [], _∷_}
+use Prim.Native.Nat.{ℕ, _+_, _^_, _≤_}
+use native.Mathlib.Omega.{arith}
+use lib.ListN.{length}
+use borrow.Author.Tests.{ltb-false}
+use Rattle.reads.specs.Program.{Request}
+use Rattle.reads.specs.declared.Read.{Read}
+use Rattle.capture.specs.Capture.{least, part, endsHigh, anyHigh, memory}
+use Rattle.capture.specs.Calls as Calls
+use Rattle.capture.specs.Calls.{partsFrom, Held}
+use Rattle.capture.specs.declared.Part.{Part}
+use Rattle.capture.proofs.Lesser.{least-left, least-right}
+use Rattle.layout.specs.Layout.{raw, layout, partsOf, captured}
+
+abbrev pub whole : (base : ℕ) (file : List ℕ) → Part
+whole base file = record { address = base; from = 0; to = length file }
+
+pub raw-parts : (base : ℕ) (file : List ℕ) → partsOf (raw base) file ≡ whole base file ∷ []
+unfolding part layout
+raw-parts base file =
+    let from : least 0 (length file) ≡ 0 = least-left 0 (length file) (omega arith) in
+    let to : least (0 + length file) (length file) ≡ length file = least-right (0 + length file) (length file) (omega arith) in
+    ap₂ (λ a b. record { address = base; from = a; to = b } ∷ []) from to
+
+-- code reads it with no other parts
+pub raw-captured : (base : ℕ) (file : List ℕ) → captured (raw base) file ≡ Calls.captured (whole base file) [] file
+unfolding partsFrom
+raw-captured base file = ap (λ l. memory l file) (raw-parts base file)
+
+pub raw-high : (base : ℕ) (file : List ℕ) → anyHigh (layout (raw base) file .banks) ≡ endsHigh base (length file)
+unfolding anyHigh layout
+raw-high base file = or-none (endsHigh base (length file))
+  where
+    or-none : (b : Bool) → (b || false) ≡ b
+    or-none true = refl
+    or-none false = refl
+
+pub raw-held : (base : ℕ) (file : List ℕ) → endsHigh base (length file) ≡ false → Held (whole base file) [] file
+raw-held base file e =
+    let h : base + length file ≤ 2 ^ 48 = ltb-false _ _ e in
+    record {
+      lies = record { order = omega arith; inside = omega arith; fits = omega (arith, h) };
+      ascending = record { lie = λ i less. absurd (omega (arith, less)); order = λ i j less inside. absurd (omega (arith, inside)) };
+    }

@@ -1,0 +1,68 @@
+-- For the contracts of code: banks and parts as words, three for each, side by side.
+-- Assumes nothing.
+use mathlib.Core.Path.{_≡_}
+use mathlib.Core.Bool.{Bool, true, false, _&&_}
+use mathlib.Core.List.{List, [], _∷_}
+use Prim.Native.Nat.{ℕ, zero, suc, _+_, _*_, _≤_, _<_}
+use lib.Dec.{leb}
+use lib.ListN.{length, getD, take}
+use lib.Seq.{sets}
+use Rattle.bits.specs.Bits.{pick}
+use Rattle.capture.specs.Capture.{Bank, anyHigh}
+use Rattle.capture.specs.Calls.{countOf, partsBy}
+use Rattle.capture.specs.declared.Part.{Part}
+use Rattle.layout.specs.declared.Said.{Said}
+use Rattle.layout.specs.declared.Laid.{Laid}
+use Rattle.layout.specs.Elf.{headed, banks, mostBanks, isCore, parts}
+
+-- the words of banks
+unfoldable pub saidWords : List Bank → List ℕ
+saidWords [] = []
+saidWords (b ∷ l) = b .address ∷ b .offset ∷ b .size ∷ saidWords l
+
+-- the words of parts
+unfoldable pub partWords : List Part → List ℕ
+partWords [] = []
+partWords (p ∷ l) = p .address ∷ p .from ∷ p .to ∷ partWords l
+
+-- banks by their words: the i-th, n of them from the i-th on, and all
+abbrev pub bankBy : (words : List ℕ) → ℕ → Bank
+bankBy words i = record { address = getD words (3 * i) 0; offset = getD words (3 * i + 1) 0; size = getD words (3 * i + 2) 0 }
+
+unfoldable pub banksOn : (words : List ℕ) → (i n : ℕ) → List Bank
+banksOn words i zero = []
+banksOn words i (suc n) = bankBy words i ∷ banksOn words (suc i) n
+
+abbrev pub banksBy : (words : List ℕ) → List Bank
+banksBy words = banksOn words 0 (countOf words)
+
+-- n program headers from one place on lie in a file of so many bytes
+abbrev pub There : (at n length : ℕ) → Type 0
+There at n length = (i : ℕ) → i < n → at + 56 * i + 56 ≤ length
+
+-- the first part, or no byte where there is none
+unfoldable pub frontOf : List Part → Part
+frontOf [] = record { address = 0; from = 0; to = 0 }
+frontOf (p ∷ l) = p
+
+abbrev pub firstBy : (words : List ℕ) → Part
+firstBy words = frontOf (partsBy words)
+
+-- what is said of the headers of a file that is not accepted
+abbrev pub refusedHeaders : Said
+refusedHeaders = record { readable = false; count = 0 }
+
+-- a call that read the headers of a file: whether it is accepted, how many banks it has, and their words over the first of the lent ones.
+-- Words are written where the headers are there and say no more banks than there may be.
+pub record Reads (file words : List ℕ) (r : Said) (words′ : List ℕ) : Type 0 where
+  pub readable : r .readable ≡ isCore file
+  pub count : r .count ≡ pick (isCore file) (length (banks file)) 0
+  pub written : words′ ≡ pick (headed file && leb (length (banks file)) mostBanks) (sets words 0 (saidWords (banks file))) words
+
+-- a call that laid out an accepted core file: whether a bank ends past 2^48, how many there are, the first part, and the words of all
+pub record Lays (file : List ℕ) (r : Laid) (words′ : List ℕ) : Type 0 where
+  pub readable : r .readable ≡ isCore file
+  pub high : isCore file ≡ true → r .high ≡ anyHigh (banks file)
+  pub front : isCore file ≡ true → r .front ≡ frontOf (parts file)
+  pub count : isCore file ≡ true → r .count ≡ length (banks file)
+  pub written : isCore file ≡ true → take (3 * length (banks file)) words′ ≡ partWords (parts file)

@@ -1,0 +1,3 @@
+pub mod Elf
+pub mod Layout
+pub mod Calls

@@ -1,0 +1,144 @@
+// The headers of an ELF64 core file, little-endian.
+ghost use mathlib.Core.Path.{_≡_};
+ghost use mathlib.Core.Bool.{true};
+ghost use Prim.Native.Nat.{_+_, _*_, _≤_};
+ghost use lib.Dec.{leb};
+ghost use lib.ListN.{length};
+ghost use lib.Seq.{sets};
+ghost use Rattle.layout.specs.Elf as Elf;
+ghost use Rattle.layout.specs.Calls as Calls;
+
+// A byte as a word.
+fn wide(x: u8) -> u64
+    ensures { λ r. ⌜ (r ≡ x) × (r ≤ 255) ⌝ }
+{
+    x as u64
+}
+
+// The number in one byte, in two, in four and in eight.
+fn one(file: &[u8], i: usize) -> u64
+    requires { ⌜ i + 1 ≤ length (now file) ⌝ }
+    ensures { λ r. ⌜ r ≡ Elf.number 1 i (now (file .entry)) ⌝ }
+{
+    wide(file[i])
+}
+
+fn two(file: &[u8], i: usize) -> u64
+    requires { ⌜ i + 2 ≤ length (now file) ⌝ }
+    ensures { λ r. ⌜ (r ≡ Elf.number 2 i (now (file .entry))) × (r ≤ 0xffff) ⌝ }
+{
+    wide(file[i]) + wide(file[i + 1]) * 0x100
+}
+
+fn four(file: &[u8], i: usize) -> u64
+    requires { ⌜ i + 4 ≤ length (now file) ⌝ }
+    ensures { λ r. ⌜ r ≡ Elf.number 4 i (now (file .entry)) ⌝ }
+{
+    wide(file[i])
+        + wide(file[i + 1]) * 0x100
+        + wide(file[i + 2]) * 0x1_0000
+        + wide(file[i + 3]) * 0x100_0000
+}
+
+fn eight(file: &[u8], i: usize) -> u64
+    requires { ⌜ i + 8 ≤ length (now file) ⌝ }
+    ensures { λ r. ⌜ r ≡ Elf.number 8 i (now (file .entry)) ⌝ }
+{
+    capture::word(file, i)
+}
+
+// An ELF header of this kind: its magic, class 64, little-endian, a core file (4) of machine 183, with program headers of 56 bytes.
+fn is_of_kind(file: &[u8]) -> bool
+    requires { ⌜ 64 ≤ length (now file) ⌝ }
+    ensures { λ r. ⌜ r ≡ Elf.ofKind (now (file .entry)) ⌝ }
+{
+    (four(file, 0) == 0x464c_457f)
+        & (one(file, 4) == 2)
+        & (one(file, 5) == 1)
+        & (two(file, 16) == 4)
+        & (two(file, 18) == 183)
+        & (two(file, 54) == 56)
+}
+
+// How many program headers there are, as the ELF header says.
+pub(crate) fn header_count(file: &[u8]) -> usize
+    requires { ⌜ 64 ≤ length (now file) ⌝ }
+    ensures { λ r. ⌜ (r ≡ Elf.headerCount (now (file .entry))) × (r ≤ 0xffff) ⌝ }
+{
+    two(file, 56) as usize
+}
+
+// Some bytes from a place on lie in a file. No sum wraps.
+fn lie(length: u64, at: u64, bytes: u64) -> bool
+    ensures { λ r. ⌜ r ≡ leb (at + bytes) length ⌝ }
+{
+    if at <= length {
+        bytes <= length - at
+    } else {
+        false
+    }
+}
+
+// Both kinds of headers are there.
+pub(crate) fn is_headed(file: &[u8]) -> bool
+    ensures { λ r. ⌜ r ≡ Elf.headed (now (file .entry)) ⌝ }
+{
+    if file.len() < 64 {
+        return false;
+    }
+    if !is_of_kind(file) {
+        return false;
+    }
+    let n = header_count(file) as u64;
+    (n == 0) | lie(file.len() as u64, eight(file, 32), 56 * n)
+}
+
+// Where the program headers stand, as the ELF header says.
+pub(crate) fn headers_at(file: &[u8]) -> u64
+    requires { ⌜ 64 ≤ length (now file) ⌝ }
+    ensures { λ r. ⌜ r ≡ Elf.headersAt (now (file .entry)) ⌝ }
+{
+    eight(file, 32)
+}
+
+fn is_bank(file: &[u8], at: usize) -> bool
+    requires { ⌜ at + 56 ≤ length (now file) ⌝ }
+    ensures { λ r. ⌜ r ≡ Elf.isBank at (now (file .entry)) ⌝ }
+{
+    four(file, at) == 1
+}
+
+// How many of n program headers are banks.
+pub(crate) fn count_banks(file: &[u8], at: usize, n: usize) -> usize
+    requires { ⌜ Calls.There at n (length (now file)) ⌝ }
+    ensures { λ r. ⌜ r ≡ length (Elf.banksFrom n at (now (file .entry))) ⌝ }
+{
+    let mut count = 0;
+    let mut i = 0;
+    while i < n {
+        if is_bank(file, at + 56 * i) {
+            count += 1;
+        }
+        i += 1;
+    }
+    count
+}
+
+// Their words, one after the other, over the first of those lent.
+pub(crate) fn write_banks(file: &[u8], at: usize, n: usize, words: &mut [u64])
+    requires { ⌜ Calls.There at n (length (now file)) × (3 * length (Elf.banksFrom n at (now file)) ≤ length (now words)) ⌝ }
+    ensures { λ r. ⌜ now (words .exit) ≡ sets (now (words .entry)) 0 (Calls.saidWords (Elf.banksFrom n at (now (file .entry)))) ⌝ }
+{
+    let mut k = 0;
+    let mut i = 0;
+    while i < n {
+        let header = at + 56 * i;
+        if is_bank(file, header) {
+            words[k] = eight(file, header + 24);
+            words[k + 1] = eight(file, header + 8);
+            words[k + 2] = eight(file, header + 32);
+            k += 3;
+        }
+        i += 1;
+    }
+}
