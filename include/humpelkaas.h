@@ -1,13 +1,13 @@
 /*
  * Humpelkaas: where do a guest's addresses land?
  *
- * Answers from a memory capture of an Arm board, by a walk of both stages of the guest's translation tables
+ * Answers from a memory capture of an Arm board, a raw one or a core file, by a walk of both stages of the guest's translation tables
  * as VMSAv8-64 has it for the Non-secure EL1&0 regime, and an audit of stage 2's tables against the memory
  * that the guest was granted. The granule is 4KB, 16KB or 64KB, for each stage and each half of stage 1 its own.
  *
  * What holds for every call:
  *
- * - Any numbers get an answer. Bad input is refused by a number from 10 to 16, and a refused call writes
+ * - Any numbers get an answer. Bad input is refused by a number from 10 to 17, and a refused call writes
  *   nothing.
  * - A list is a pointer and its number of elements, which are lent for the time of the call. A pointer must
  *   not be NULL, even with 0 elements, and must be aligned for its type: a capture and a buffer may begin at
@@ -38,6 +38,7 @@ enum humpelkaas_limit {
     HUMPELKAAS_MOST_BATCH = 4096,  /* addresses in a batch */
     HUMPELKAAS_MOST_GRANTS = 256,  /* grants in an audit */
     HUMPELKAAS_MOST_TABLES = 1024, /* tables in an audit, without the root */
+    HUMPELKAAS_MOST_BANKS = 64,    /* banks in a core file; a bank list has at least so many words */
     HUMPELKAAS_LINE_BYTES = 146    /* a buffer of so many bytes has room for every ledger's line */
 };
 
@@ -90,13 +91,14 @@ enum humpelkaas_number {
     HUMPELKAAS_UNSETTLED = 7,      /* Arm leaves open what the descriptor means */
 
     /* Refusals. Each call has its own in its own order, below, and gives the first that applies. */
-    HUMPELKAAS_REFUSED_LOG = 10,         /* the log has fewer than 24 words */
-    HUMPELKAAS_REFUSED_CAPTURE = 11,     /* the capture's base plus its length is over 2^48 */
+    HUMPELKAAS_REFUSED_LOG = 10,         /* the log has fewer than 24 words, or a bank list fewer than 64 */
+    HUMPELKAAS_REFUSED_CAPTURE = 11,     /* the capture's base plus its length, or a bank's address plus its size, is over 2^48 */
     HUMPELKAAS_REFUSED_SETTINGS = 12,    /* a register is not accepted: the item says which */
     HUMPELKAAS_REFUSED_ACCESS = 13,      /* a kind, EL or size that is not one of those above */
     HUMPELKAAS_REFUSED_BATCH_LISTS = 14, /* a batch's lists differ in length, or have over 4096 words */
     HUMPELKAAS_REFUSED_AUDIT_LISTS = 15, /* the audit's lists are malformed: humpelkaas_audit says what they must be */
-    HUMPELKAAS_REFUSED_ROOT = 16         /* stage 2 is off, or it faults every address before any read */
+    HUMPELKAAS_REFUSED_ROOT = 16,        /* stage 2 is off, or it faults every address before any read */
+    HUMPELKAAS_REFUSED_CORE = 17         /* no core file that can be read: humpelkaas_core_banks says what it must be */
 };
 
 /*
@@ -282,6 +284,68 @@ humpelkaas_audit_answer humpelkaas_audit(const uint8_t *bytes, size_t length, ui
                                          const uint64_t *counts, size_t counts_length,
                                          const uint64_t *tables, size_t tables_length,
                                          const uint64_t *levels, size_t levels_length);
+
+/* ---- core files */
+
+/* The answer of a bank list. */
+enum humpelkaas_banks_number {
+    HUMPELKAAS_BANKS_LISTED = 0
+};
+
+typedef struct humpelkaas_banks_answer {
+    uint64_t number; /* HUMPELKAAS_BANKS_LISTED, or a refusal's */
+    uint64_t count;  /* how many banks there are */
+} humpelkaas_banks_answer;
+
+/*
+ * The banks of a core file: which physical memory it has.
+ *
+ * Takes the bytes of an ELF64 core file, as a debugger writes it. Each program header of type 1 (loadable) is
+ * a bank: a physical address (p_paddr), an offset in the file and a size (p_filesz). Other program headers,
+ * sections and notes are not looked at.
+ *
+ * Writes, for each bank in the order of the headers, addresses[i], offsets[i], lengths[i] and shorts[i]: its
+ * physical address, its offset, how many of its bytes are in the file, and 1 if these are fewer than its
+ * header says (the file was cut), else 0. Each list has at least 64 words, of which the others keep their values.
+ *
+ * Refusals, in this order: 17, 10. 17 is given exactly when
+ *
+ * - the 64 bytes of the ELF header are not all there, or it is not of this kind: magic, class 64, little-endian,
+ *   type 4, machine 183, program headers of 56 bytes;
+ * - the program headers are not wholly in the file: there are as many as e_phnum says, also for 0 and 0xFFFF;
+ * - there are over 64 banks, or one starts before the end of the one before it, by the sizes in their headers;
+ * - a byte of the file lies in two banks, or in a bank and the ELF header or the program headers.
+ */
+humpelkaas_banks_answer humpelkaas_core_banks(const uint8_t *file, size_t length,
+                                              uint64_t *addresses, size_t addresses_length,
+                                              uint64_t *offsets, size_t offsets_length,
+                                              uint64_t *lengths, size_t lengths_length,
+                                              uint64_t *shorts, size_t shorts_length);
+
+/*
+ * A question, a batch and an audit over a core file, by its bytes. They are those of a raw capture, but that:
+ *
+ * - a descriptor is there if all its eight bytes are there in one bank. One that lies half in a bank, or across
+ *   two that touch, is not in the capture;
+ * - 17 is refused before all else, and 11 is any bank whose address plus size, by its header, is over 2^48;
+ * - what a clean audit promises holds for files with the same length and the same ELF and program headers.
+ */
+humpelkaas_answer humpelkaas_core_translate(const uint8_t *file, size_t length, humpelkaas_el2 el2,
+                                            humpelkaas_el1 el1, humpelkaas_access access, uint64_t *log, size_t log_length);
+
+humpelkaas_batch_answer humpelkaas_core_batch(const uint8_t *file, size_t length, humpelkaas_el2 el2,
+                                              humpelkaas_el1 el1, uint64_t kind, uint64_t el, uint64_t size,
+                                              const uint64_t *addresses, size_t addresses_length,
+                                              uint64_t *outputs, size_t outputs_length,
+                                              uint64_t *numbers, size_t numbers_length);
+
+humpelkaas_audit_answer humpelkaas_core_audit(const uint8_t *file, size_t length, humpelkaas_el2 el2,
+                                              const uint64_t *grants, size_t grants_length,
+                                              const uint64_t *counts, size_t counts_length,
+                                              const uint64_t *tables, size_t tables_length,
+                                              const uint64_t *levels, size_t levels_length);
+
+/* ---- the ledger */
 
 /*
  * A ledger's line, such as `asked 2 translated 1 faulted 1 absent 0 unsettled 0`.

@@ -49,6 +49,14 @@ pub struct AuditWords {
     pub address: u64,
 }
 
+/// A bank list's answer: number 0 is listed, others a refusal.
+#[repr(C)]
+#[derive(Clone, Copy, Debug, Default, PartialEq, Eq)]
+pub struct BanksWords {
+    pub number: u64,
+    pub count: u64,
+}
+
 /// What an audit is held against, as the library takes it: grants by address and byte count, tables by address and level.
 #[derive(Clone, Copy, Debug, Default)]
 pub struct Lists<'a> {
@@ -102,6 +110,59 @@ extern "C" {
         levels_length: usize,
     ) -> AuditWords;
 
+    fn humpelkaas_core_translate(
+        file: *const u8,
+        length: usize,
+        el2: El2,
+        el1: El1,
+        access: Access,
+        log: *mut u64,
+        log_length: usize,
+    ) -> Words;
+
+    fn humpelkaas_core_batch(
+        file: *const u8,
+        length: usize,
+        el2: El2,
+        el1: El1,
+        kind: u64,
+        el: u64,
+        size: u64,
+        addresses: *const u64,
+        addresses_length: usize,
+        outputs: *mut u64,
+        outputs_length: usize,
+        numbers: *mut u64,
+        numbers_length: usize,
+    ) -> BatchWords;
+
+    fn humpelkaas_core_audit(
+        file: *const u8,
+        length: usize,
+        el2: El2,
+        grants: *const u64,
+        grants_length: usize,
+        counts: *const u64,
+        counts_length: usize,
+        tables: *const u64,
+        tables_length: usize,
+        levels: *const u64,
+        levels_length: usize,
+    ) -> AuditWords;
+
+    fn humpelkaas_core_banks(
+        file: *const u8,
+        length: usize,
+        addresses: *mut u64,
+        addresses_length: usize,
+        offsets: *mut u64,
+        offsets_length: usize,
+        lengths: *mut u64,
+        lengths_length: usize,
+        shorts: *mut u64,
+        shorts_length: usize,
+    ) -> BanksWords;
+
     fn humpelkaas_ledger_line(ledger: Ledger, buffer: *mut u8, length: usize) -> u64;
 }
 
@@ -109,8 +170,13 @@ extern "C" {
 #[inline]
 pub fn translate(capture: Capture, el2: El2, el1: El1, access: Access, log: &mut [u64]) -> Words {
     // Sound for a function that keeps to the lengths that it is given, as is proved of it and of those below.
-    unsafe {
-        humpelkaas_translate(capture.bytes.as_ptr(), capture.bytes.len(), capture.base, el2, el1, access, log.as_mut_ptr(), log.len())
+    match capture {
+        Capture::Raw { base, bytes } => unsafe {
+            humpelkaas_translate(bytes.as_ptr(), bytes.len(), base, el2, el1, access, log.as_mut_ptr(), log.len())
+        },
+        Capture::Core { file } => unsafe {
+            humpelkaas_core_translate(file.as_ptr(), file.len(), el2, el1, access, log.as_mut_ptr(), log.len())
+        },
     }
 }
 
@@ -125,43 +191,101 @@ pub fn batch(
     outputs: &mut [u64],
     numbers: &mut [u64],
 ) -> BatchWords {
-    unsafe {
-        humpelkaas_batch(
-            capture.bytes.as_ptr(),
-            capture.bytes.len(),
-            capture.base,
-            el2,
-            el1,
-            manner.kind,
-            manner.el,
-            manner.size,
-            addresses.as_ptr(),
-            addresses.len(),
-            outputs.as_mut_ptr(),
-            outputs.len(),
-            numbers.as_mut_ptr(),
-            numbers.len(),
-        )
+    let Access { kind, el, size, .. } = manner;
+    match capture {
+        Capture::Raw { base, bytes } => unsafe {
+            humpelkaas_batch(
+                bytes.as_ptr(),
+                bytes.len(),
+                base,
+                el2,
+                el1,
+                kind,
+                el,
+                size,
+                addresses.as_ptr(),
+                addresses.len(),
+                outputs.as_mut_ptr(),
+                outputs.len(),
+                numbers.as_mut_ptr(),
+                numbers.len(),
+            )
+        },
+        Capture::Core { file } => unsafe {
+            humpelkaas_core_batch(
+                file.as_ptr(),
+                file.len(),
+                el2,
+                el1,
+                kind,
+                el,
+                size,
+                addresses.as_ptr(),
+                addresses.len(),
+                outputs.as_mut_ptr(),
+                outputs.len(),
+                numbers.as_mut_ptr(),
+                numbers.len(),
+            )
+        },
     }
 }
 
 /// Audits stage 2's tables.
 #[inline]
 pub fn audit(capture: Capture, el2: El2, lists: Lists) -> AuditWords {
+    let Lists { grants, counts, tables, levels } = lists;
+    match capture {
+        Capture::Raw { base, bytes } => unsafe {
+            humpelkaas_audit(
+                bytes.as_ptr(),
+                bytes.len(),
+                base,
+                el2,
+                grants.as_ptr(),
+                grants.len(),
+                counts.as_ptr(),
+                counts.len(),
+                tables.as_ptr(),
+                tables.len(),
+                levels.as_ptr(),
+                levels.len(),
+            )
+        },
+        Capture::Core { file } => unsafe {
+            humpelkaas_core_audit(
+                file.as_ptr(),
+                file.len(),
+                el2,
+                grants.as_ptr(),
+                grants.len(),
+                counts.as_ptr(),
+                counts.len(),
+                tables.as_ptr(),
+                tables.len(),
+                levels.as_ptr(),
+                levels.len(),
+            )
+        },
+    }
+}
+
+/// Lists the banks of a core file: for each its address, its offset in the file, how many of its bytes are there, and 1 if these are
+/// fewer than its header says. The lists have 64 words or more.
+#[inline]
+pub fn banks(file: &[u8], addresses: &mut [u64], offsets: &mut [u64], lengths: &mut [u64], shorts: &mut [u64]) -> BanksWords {
     unsafe {
-        humpelkaas_audit(
-            capture.bytes.as_ptr(),
-            capture.bytes.len(),
-            capture.base,
-            el2,
-            lists.grants.as_ptr(),
-            lists.grants.len(),
-            lists.counts.as_ptr(),
-            lists.counts.len(),
-            lists.tables.as_ptr(),
-            lists.tables.len(),
-            lists.levels.as_ptr(),
-            lists.levels.len(),
+        humpelkaas_core_banks(
+            file.as_ptr(),
+            file.len(),
+            addresses.as_mut_ptr(),
+            addresses.len(),
+            offsets.as_mut_ptr(),
+            offsets.len(),
+            lengths.as_mut_ptr(),
+            lengths.len(),
+            shorts.as_mut_ptr(),
+            shorts.len(),
         )
     }
 }

@@ -15,6 +15,7 @@ pub enum Refusal {
     BatchLists,
     AuditLists,
     NoRoot,
+    CoreFile,
 }
 
 impl Refusal {
@@ -27,6 +28,7 @@ impl Refusal {
             14 => Refusal::BatchLists,
             15 => Refusal::AuditLists,
             16 => Refusal::NoRoot,
+            17 => Refusal::CoreFile,
             _ => unknown("answer", number),
         }
     }
@@ -40,6 +42,7 @@ impl Refusal {
             Refusal::BatchLists => 14,
             Refusal::AuditLists => 15,
             Refusal::NoRoot => 16,
+            Refusal::CoreFile => 17,
         }
     }
 
@@ -74,12 +77,16 @@ impl fmt::Display for Refusal {
     fn fmt(&self, f: &mut fmt::Formatter) -> fmt::Result {
         match self {
             Refusal::ShortLog => f.write_str("the log has under 24 words"),
-            Refusal::HighCapture => f.write_str("the capture's base plus its length is over 2^48"),
+            Refusal::HighCapture => f.write_str("the capture's base plus its length, or a bank's address plus its size, is over 2^48"),
             Refusal::Settings { item } => write!(f, "settings, item {item}: {}", setting(*item)),
             Refusal::Unlisted => f.write_str("the kind is not 0 to 2, the EL not 0 or 1, or the size not 1, 2, 4, 8 or 16"),
             Refusal::BatchLists => f.write_str("the batch's lists differ in length, or have over 4,096 words"),
             Refusal::AuditLists => f.write_str("the list of grants or of tables is malformed"),
             Refusal::NoRoot => f.write_str("there is no usable stage 2 root: stage 2 is off, or it faults every IPA before any read"),
+            Refusal::CoreFile => f.write_str(
+                "the file is no ELF64 core file of this kind (little-endian, machine 183), its headers are not wholly there, \
+                 or its banks are over 64, out of order or overlap",
+            ),
         }
     }
 }

@@ -31,7 +31,7 @@ fn memory() -> Vec<u8> {
 }
 
 fn capture(bytes: &[u8]) -> Capture<'_> {
-    Capture { base: BASE, bytes }
+    Capture::Raw { base: BASE, bytes }
 }
 
 fn answer(bytes: &[u8], registers: &Registers, access: Access, address: u64) -> Answer {
@@ -76,7 +76,7 @@ fn refusals_by_number() {
     let l = answer(&memory(), &wrong, READ, 0x1008);
     assert_eq!(l, Answer::Refused(Refusal::Settings { item: 6 }));
     assert_eq!(answer(&memory(), &REGISTERS, Access { kind: Kind::from(3), ..READ }, 0), Answer::Refused(Refusal::Unlisted));
-    let high = Capture { base: (1 << 48) - 1, bytes: &[0, 0] };
+    let high = Capture::Raw { base: (1 << 48) - 1, bytes: &[0, 0] };
     assert_eq!(translate(high, &REGISTERS, READ, 0).answer, Answer::Refused(Refusal::HighCapture));
     let words = calls::translate(capture(&memory()), REGISTERS.el2, REGISTERS.el1, calls::Access::default(), &mut [0; 23]);
     assert_eq!(Answer::from(words), Answer::Refused(Refusal::ShortLog));

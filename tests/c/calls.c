@@ -1,7 +1,7 @@
 /*
  * Calls every exported function through the header, from C and from C++, and holds what comes back to document 01's
- * cases and to what a guest with larger granules has. Each constant of the header is met by an answer or a limit of
- * the library.
+ * cases, to what a guest with larger granules has, and to the same cases in a core file. Each constant of the header is
+ * met by an answer or a limit of the library.
  *
  * Prints what differs and, on the last line, how many values were held and how many differ. Exit status 0 exactly when
  * none do.
@@ -631,6 +631,252 @@ static void audits_of_granules(void)
                  0x40004010);
 }
 
+/* ---- core files */
+
+/* Case A's capture as a core file: a note, then two banks that touch in memory. Their bytes are in the file the other
+ * way round, right behind the headers and each other. */
+#define LOW 0x3000
+#define HIGH (sizeof words - LOW)
+#define HIGH_AT (64 + 3 * 56)
+#define LOW_AT (HIGH_AT + HIGH)
+
+static uint8_t core[LOW_AT + LOW];
+
+static void little(size_t at, uint64_t number, size_t count)
+{
+    for (size_t i = 0; i < count; i++)
+        core[at + i] = (uint8_t)(number >> 8 * i);
+}
+
+static void program_header(size_t n, uint64_t type, uint64_t offset, uint64_t address, uint64_t size)
+{
+    size_t at = 64 + n * 56;
+    little(at, type, 4);
+    little(at + 8, offset, 8);
+    little(at + 24, address, 8);
+    little(at + 32, size, 8);
+}
+
+/* What is not tested holds MARK's bytes. */
+static void elf_header(uint64_t headers)
+{
+    memset(core, 0x5A, sizeof core);
+    memcpy(core, "\177ELF\002\001", 6);
+    little(16, 4, 2);
+    little(18, 183, 2);
+    little(32, 64, 8);
+    little(54, 56, 2);
+    little(56, headers, 2);
+}
+
+static void reset_core(void)
+{
+    reset();
+    elf_header(3);
+    program_header(0, 4, 0, 0, UINT64_MAX);
+    program_header(1, 1, LOW_AT, BASE, LOW);
+    program_header(2, 1, HIGH_AT, BASE + LOW, HIGH);
+    memcpy(core + LOW_AT, bytes, LOW);
+    memcpy(core + HIGH_AT, bytes + LOW, HIGH);
+}
+
+/* Two words more than a bank list must have. */
+static uint64_t bank_addresses[HUMPELKAAS_MOST_BANKS + 2], bank_offsets[COUNT(bank_addresses)];
+static uint64_t bank_lengths[COUNT(bank_addresses)], bank_shorts[COUNT(bank_addresses)];
+
+static humpelkaas_banks_answer banks_in(size_t length, size_t first, size_t second, size_t third, size_t fourth)
+{
+    fill(bank_addresses, COUNT(bank_addresses));
+    fill(bank_offsets, COUNT(bank_offsets));
+    fill(bank_lengths, COUNT(bank_lengths));
+    fill(bank_shorts, COUNT(bank_shorts));
+    return humpelkaas_core_banks(core, length, bank_addresses, first, bank_offsets, second, bank_lengths, third,
+                                 bank_shorts, fourth);
+}
+
+static humpelkaas_banks_answer banks(size_t length)
+{
+    const size_t enough = HUMPELKAAS_MOST_BANKS;
+    return banks_in(length, enough, enough, enough, enough);
+}
+
+static void expect_banks(const char *what, humpelkaas_banks_answer got, uint64_t number, uint64_t count)
+{
+    same(what, "number", got.number, number);
+    same(what, "count", got.count, count);
+    kept(what, bank_addresses, count, COUNT(bank_addresses));
+    kept(what, bank_offsets, count, COUNT(bank_offsets));
+    kept(what, bank_lengths, count, COUNT(bank_lengths));
+    kept(what, bank_shorts, count, COUNT(bank_shorts));
+}
+
+static void expect_bank(const char *what, size_t n, uint64_t address, uint64_t offset, uint64_t length, uint64_t cut)
+{
+    same(what, "a bank's address", bank_addresses[n], address);
+    same(what, "a bank's offset", bank_offsets[n], offset);
+    same(what, "a bank's length", bank_lengths[n], length);
+    same(what, "a bank's mark", bank_shorts[n], cut);
+}
+
+static void bank_lists(void)
+{
+    reset_core();
+    expect_banks("a core file", banks(sizeof core), HUMPELKAAS_BANKS_LISTED, 2);
+    expect_bank("a core file", 0, BASE, LOW_AT, LOW, 0);
+    expect_bank("a core file", 1, BASE + LOW, HIGH_AT, HIGH, 0);
+    expect_banks("a file cut in a bank", banks(LOW_AT + 5), HUMPELKAAS_BANKS_LISTED, 2);
+    expect_bank("a file cut in a bank", 0, BASE, LOW_AT, 5, 1);
+    expect_bank("a file cut in a bank", 1, BASE + LOW, HIGH_AT, HIGH, 0);
+    expect_banks("a file cut before all banks", banks(HIGH_AT), HUMPELKAAS_BANKS_LISTED, 2);
+    expect_bank("a file cut before all banks", 0, BASE, LOW_AT, 0, 1);
+    expect_bank("a file cut before all banks", 1, BASE + LOW, HIGH_AT, 0, 1);
+    expect_banks("lists of 66 words", banks_in(sizeof core, 66, 66, 66, 66), HUMPELKAAS_BANKS_LISTED, 2);
+
+    elf_header(0);
+    expect_banks("an ELF header alone", banks(64), HUMPELKAAS_BANKS_LISTED, 0);
+    elf_header(HUMPELKAAS_MOST_BANKS + 1);
+    for (size_t n = 0; n <= HUMPELKAAS_MOST_BANKS; n++)
+        program_header(n, 1, 0, BASE, 0);
+    expect_banks("65 banks", banks(sizeof core), HUMPELKAAS_REFUSED_CORE, 0);
+    program_header(0, 4, 0, BASE, 0);
+    expect_banks("64 banks", banks(sizeof core), HUMPELKAAS_BANKS_LISTED, HUMPELKAAS_MOST_BANKS);
+    expect_bank("64 banks", HUMPELKAAS_MOST_BANKS - 1, BASE, 0, 0, 0);
+}
+
+/* Each field that is tested, one byte of it wrong; then what banks may not do. */
+static void bank_refusals(void)
+{
+    static const size_t tested[] = {0, 1, 2, 3, 4, 5, 16, 17, 18, 19, 54, 55};
+    const size_t enough = HUMPELKAAS_MOST_BANKS, few = enough - 1;
+
+    for (size_t i = 0; i < COUNT(tested); i++) {
+        reset_core();
+        core[tested[i]] ^= 1;
+        expect_banks("a header of another kind", banks(sizeof core), HUMPELKAAS_REFUSED_CORE, 0);
+    }
+    reset_core();
+    expect_banks("a file of 63 bytes", banks(63), HUMPELKAAS_REFUSED_CORE, 0);
+    expect_banks("a file cut in the program headers", banks(HIGH_AT - 1), HUMPELKAAS_REFUSED_CORE, 0);
+    program_header(2, 1, HIGH_AT, BASE + LOW - 1, HIGH);
+    expect_banks("banks that overlap in memory", banks(sizeof core), HUMPELKAAS_REFUSED_CORE, 0);
+    program_header(2, 1, HIGH_AT, BASE + LOW, HIGH + 1);
+    expect_banks("banks that overlap in the file", banks(sizeof core), HUMPELKAAS_REFUSED_CORE, 0);
+    program_header(2, 1, HIGH_AT - 1, BASE + LOW, HIGH);
+    expect_banks("a bank in the program headers", banks(sizeof core), HUMPELKAAS_REFUSED_CORE, 0);
+    program_header(2, 1, 0, BASE + LOW, 1);
+    expect_banks("a bank in the ELF header", banks(sizeof core), HUMPELKAAS_REFUSED_CORE, 0);
+
+    reset_core();
+    expect_banks("63 addresses", banks_in(sizeof core, few, enough, enough, enough), HUMPELKAAS_REFUSED_LOG, 0);
+    expect_banks("63 offsets", banks_in(sizeof core, enough, few, enough, enough), HUMPELKAAS_REFUSED_LOG, 0);
+    expect_banks("63 lengths", banks_in(sizeof core, enough, enough, few, enough), HUMPELKAAS_REFUSED_LOG, 0);
+    expect_banks("63 marks", banks_in(sizeof core, enough, enough, enough, few), HUMPELKAAS_REFUSED_LOG, 0);
+    expect_banks("63 words for no core file", banks_in(63, few, few, few, few), HUMPELKAAS_REFUSED_CORE, 0);
+}
+
+/* Case A of the core file's first bytes, with a log of so many words. */
+static humpelkaas_answer ask_core(size_t length, size_t log_length)
+{
+    fill(log_words, COUNT(log_words));
+    return humpelkaas_core_translate(core, length, host(), guest(), reading(0x1008), log_words, log_length);
+}
+
+static void core_questions(void)
+{
+    reset_core();
+    expect_a("A in a core file", ask_core(sizeof core, COUNT(log_words)));
+    expect_a("A in a core file with a log of 24 words", ask_core(sizeof core, HUMPELKAAS_LOG_WORDS));
+    expect("A in a core file with a log of 23 words", ask_core(sizeof core, HUMPELKAAS_LOG_WORDS - 1),
+           refused(HUMPELKAAS_REFUSED_LOG, 0));
+    expect("A in no core file with a log of 23 words", ask_core(63, HUMPELKAAS_LOG_WORDS - 1),
+           refused(HUMPELKAAS_REFUSED_CORE, 0));
+    expect("A in a file cut in the last descriptor", ask_core(LOW_AT + 0x2287, COUNT(log_words)),
+           stopped(HUMPELKAAS_NOT_IN_CAPTURE, 0x40002280, 2, 3, 0, 0, 14));
+    expect_a("A in a file cut behind it", ask_core(LOW_AT + 0x2288, COUNT(log_words)));
+
+    reset_core();
+    program_header(2, 1, HIGH_AT, TOP - HIGH + 1, HIGH);
+    expect("A with a bank past 2^48", ask_core(sizeof core, COUNT(log_words)), refused(HUMPELKAAS_REFUSED_CAPTURE, 0));
+}
+
+/* A descriptor of case A that lies across two banks which touch: the first word of the table behind LOW. */
+static void across_banks(void)
+{
+    reset_core();
+    memcpy(core + HIGH_AT, bytes + LOW + 4, HIGH - 4);
+    program_header(1, 1, LOW_AT - 4, BASE, LOW + 4);
+    program_header(2, 1, HIGH_AT, BASE + LOW + 4, HIGH - 4);
+    memcpy(core + LOW_AT - 4, bytes, LOW + 4);
+    expect_banks("banks that touch in a descriptor", banks(sizeof core), HUMPELKAAS_BANKS_LISTED, 2);
+    expect("A across two banks", ask_core(sizeof core, COUNT(log_words)),
+           stopped(HUMPELKAAS_NOT_IN_CAPTURE, 0x40003000, 1, 1, 0, 0, 3));
+}
+
+static humpelkaas_batch_answer core_batch(size_t length, size_t outputs_length)
+{
+    humpelkaas_access access = reading(0);
+    return humpelkaas_core_batch(core, length, host(), guest(), access.kind, access.el, access.size,
+                                 addresses, 2, outputs, outputs_length, numbers, 2);
+}
+
+static void core_batches(void)
+{
+    reset_core();
+    fill(outputs, COUNT(outputs));
+    fill(numbers, COUNT(numbers));
+    expect_batch("a batch in no core file", core_batch(63, 1), batch_refused(HUMPELKAAS_REFUSED_CORE, 0));
+    expect_batch("a batch in a core file with one output", core_batch(sizeof core, 1),
+                 batch_refused(HUMPELKAAS_REFUSED_BATCH_LISTS, 0));
+    kept("refused batches in a core file, outputs", outputs, 0, COUNT(outputs));
+    kept("refused batches in a core file, numbers", numbers, 0, COUNT(numbers));
+    expect_batch("a batch in a core file", core_batch(sizeof core, 2), done(figures(2, 1, 1, 0, 0)));
+    same("a batch in a core file", "output 0", outputs[0], 0x90008);
+    same("a batch in a core file", "output 1", outputs[1], 0);
+    same("a batch in a core file", "number 0", numbers[0], HUMPELKAAS_TRANSLATED);
+    same("a batch in a core file", "number 1", numbers[1], HUMPELKAAS_TRANSLATION_FAULT);
+    kept("a batch in a core file, outputs", outputs, 2, COUNT(outputs));
+    kept("a batch in a core file, numbers", numbers, 2, COUNT(numbers));
+    expect_batch("a batch in a file cut before all banks", core_batch(HIGH_AT, 2), done(figures(2, 0, 0, 2, 0)));
+}
+
+static humpelkaas_audit_answer core_audit(size_t length)
+{
+    return humpelkaas_core_audit(core, length, host(), grants, 2, counts, 2, tables, 2, levels, 2);
+}
+
+static void core_audits(void)
+{
+    reset_core();
+    reset_lists();
+    expect_audit("M in a core file", core_audit(sizeof core), HUMPELKAAS_CLEAN, 0);
+    expect_audit("M in a file cut in the last entry", core_audit(sizeof core - 1), HUMPELKAAS_TABLE_NOT_IN_CAPTURE,
+                 0x40002000);
+    expect_audit_refused("M in no core file", core_audit(63), HUMPELKAAS_REFUSED_CORE, 0);
+
+    /* The last table in two banks, between two entries and then with the second one not there. */
+    program_header(0, 1, LOW_AT, BASE, 0x2800);
+    program_header(1, 1, LOW_AT + 0x2800, BASE + 0x2800, LOW - 0x2800);
+    expect_audit("M with a table in two banks", core_audit(sizeof core), HUMPELKAAS_CLEAN, 0);
+    program_header(1, 4, LOW_AT + 0x2800, BASE + 0x2800, LOW - 0x2800);
+    expect_audit("M with half a table", core_audit(sizeof core), HUMPELKAAS_TABLE_NOT_IN_CAPTURE, 0x40002000);
+    program_header(2, 1, HIGH_AT, TOP, HIGH);
+    expect_audit_refused("M with a bank past 2^48", core_audit(sizeof core), HUMPELKAAS_REFUSED_CAPTURE, 0);
+}
+
+/* The answers' words are where the header says, with nothing between or behind them. */
+static void layouts(void)
+{
+    same("humpelkaas_banks_answer", "size", sizeof(humpelkaas_banks_answer), 16);
+    same("humpelkaas_banks_answer", "number", offsetof(humpelkaas_banks_answer, number), 0);
+    same("humpelkaas_banks_answer", "count", offsetof(humpelkaas_banks_answer, count), 8);
+    same("humpelkaas_answer", "size", sizeof(humpelkaas_answer), 12 * 8);
+    same("humpelkaas_batch_answer", "size", sizeof(humpelkaas_batch_answer), 7 * 8);
+    same("humpelkaas_audit_answer", "size", sizeof(humpelkaas_audit_answer), 3 * 8);
+    same("humpelkaas_el2", "size", sizeof(humpelkaas_el2), 5 * 8);
+    same("humpelkaas_el1", "size", sizeof(humpelkaas_el1), 5 * 8);
+    same("humpelkaas_access", "size", sizeof(humpelkaas_access), 4 * 8);
+}
+
 int main(void)
 {
     case_a();
@@ -645,6 +891,13 @@ int main(void)
     audit_refusals();
     granules();
     audits_of_granules();
+    bank_lists();
+    bank_refusals();
+    core_questions();
+    across_banks();
+    core_batches();
+    core_audits();
+    layouts();
     printf("%u held, %u differ\n", held, differ);
     return differ == 0 ? 0 : 1;
 }
