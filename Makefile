@@ -86,7 +86,7 @@ uninstall:
 
 # ---- using, testing
 
-# A sample of all input files, in target/sample.
+# Two samples with all input files, in target/sample.
 sample: all
 	$(COMMAND) sample target/sample
 

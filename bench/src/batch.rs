@@ -1,19 +1,20 @@
 //! The straightforward walk for a batch: registers are decoded once.
 use crate::decode::{bit, first, First};
-use crate::proved::{Capture, Question};
+use crate::memory::Memory;
+use crate::proved::Question;
 use crate::straight::{Trail, Walker, LOG};
 
-/// A capture with decoded registers, ready for any number of addresses.
-pub struct Batch<'a> {
-    walker: Walker<'a>,
+/// Memory with decoded registers, ready for any number of addresses.
+pub struct Batch<M> {
+    walker: Walker<M>,
     low: First,
     high: First,
 }
 
-impl<'a> Batch<'a> {
+impl<M: Memory> Batch<M> {
     /// For accepted settings, kinds, ELs and sizes.
-    pub fn new(q: &Question, capture: Capture<'a>) -> Batch<'a> {
-        Batch { walker: Walker::new(q, capture), low: first(q, false), high: first(q, true) }
+    pub fn new(q: &Question, memory: M) -> Batch<M> {
+        Batch { walker: Walker::new(q, memory), low: first(q, false), high: first(q, true) }
     }
 
     /// Answers all addresses. The log holds what the last ones left: it is not cleared between them.

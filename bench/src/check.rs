@@ -40,7 +40,7 @@ pub fn agree(workload: &Workload) -> Result<Agreed, String> {
 }
 
 /// Number and output of each address, if both batches say the same.
-fn batches_agree(workload: &Workload, batch: &Batch, addresses: &[u64]) -> Result<Vec<(u64, u64)>, String> {
+fn batches_agree(workload: &Workload, batch: &Batch<Capture>, addresses: &[u64]) -> Result<Vec<(u64, u64)>, String> {
     // Filled with what no answer holds, so that an entry that is not written is seen.
     let mut ours = (vec![u64::MAX; BATCH], vec![u64::MAX; BATCH]);
     let mut theirs = ours.clone();

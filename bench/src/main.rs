@@ -4,13 +4,15 @@
 //!
 //! All four ways (the proved batch and one in Rust, the proved question and one in Rust called for each address) must first give
 //! the same answers. Then they are timed in one run, and ratios of median times are printed. The same is done for the largest audits,
-//! the proved one and one in Rust. Status 1 if answers differ, 2 for wrong arguments.
+//! the proved one and one in Rust, and for core files of the hot workloads' captures. Status 1 if answers differ, 2 for wrong arguments.
 mod attributes;
 mod audit;
 mod audits;
 mod batch;
 mod check;
+mod cores;
 mod decode;
+mod memory;
 mod one_by_one;
 mod proved;
 mod question;
@@ -89,6 +91,29 @@ fn walks(quick: bool, rounds: usize) {
     }
 }
 
+/// The hot workloads with both stages, over core files.
+fn cores(rounds: usize) {
+    println!("Core files of the same captures, {rounds} rounds, {} questions a round. Above 1 the first one is slower.", cores::QUESTIONS);
+    println!("Core is the proved call over the file, raw the proved call over the capture, Rust is over the file too.");
+    println!();
+    println!(
+        "| workload | banks | batch: core / raw | core / Rust scan | core / Rust halving | core, ns an address \
+         | question: core / raw | core / Rust scan | core / Rust halving | core, ns an address |"
+    );
+    println!("|---|---|---|---|---|---|---|---|---|---|");
+    for plan in workloads::plans(true).into_iter().take(2) {
+        let workload = workloads::build(&plan, SEED);
+        for banks in cores::COUNTS {
+            let file = cores::build(&workload, banks, SEED);
+            cores::agree(&workload, &file).unwrap_or_else(|difference| differ(plan.name, difference));
+            let (batch, question) = cores::measure(&workload, &file, rounds);
+            let ratios =
+                |m: &cores::Medians| format!("{:.2} | {:.2} | {:.2} | {:.0}", m.core / m.raw, m.core / m.scan, m.core / m.halving, m.core);
+            println!("| {} | {banks} | {} | {} |", plan.name, ratios(&batch), ratios(&question));
+        }
+    }
+}
+
 fn audits(rounds: usize) {
     println!("The largest audits, clean: {MOST_TABLES} tables, {MOST_GRANTS} grants, {} entries, {rounds} rounds.", audits::ALL_ENTRIES);
     println!();
@@ -105,6 +130,8 @@ fn audits(rounds: usize) {
 fn main() {
     let Arguments { quick, rounds } = arguments();
     walks(quick, rounds);
+    println!();
+    cores(rounds);
     println!();
     audits((rounds / AUDIT_EVERY).max(LEAST_AUDITS));
 }

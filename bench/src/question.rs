@@ -1,8 +1,9 @@
 //! The straightforward walk for one question: what it is refused for is tested, registers are decoded anew, and the answer is whole.
 use crate::attributes::reported;
 use crate::decode::{bit, first};
+use crate::memory::{Banks, Core, Memory};
 use crate::proved::{Capture, Question, Words};
-use crate::refusals::refusal;
+use crate::refusals::{ends_high, refusal};
 use crate::straight::{Cause, Notes, Place, Trail, Walker, LOG};
 
 #[derive(Clone, Copy)]
@@ -63,13 +64,33 @@ fn stopped(cause: Cause, ends: &Ends, reads: u64) -> Words {
 // Never inlined, so that one call is one question, and the stores of log and answer cannot be left out.
 #[inline(never)]
 pub fn ask(q: &Question, capture: Capture, address: u64, log: &mut [u64]) -> Words {
-    if let Some(words) = refusal(q, capture, log.len()) {
+    if let Some(words) = refusal(q, ends_high(capture), log.len()) {
         return words;
     }
+    answer(q, capture, address, log)
+}
+
+/// The same over a core file, whose headers are read anew.
+#[inline(never)]
+pub fn ask_core<const HALVING: bool>(q: &Question, file: &[u8], address: u64, log: &mut [u64]) -> Words {
+    let core = match Core::read(file) {
+        Some(core) => core,
+        None => return Words { number: 17, ..Words::default() },
+    };
+    if let Some(words) = refusal(q, core.high, log.len()) {
+        return words;
+    }
+    answer(q, Banks::<HALVING>(&core.banks), address, log)
+}
+
+/// The answer to a question that is not refused.
+// Inlined into both of its callers, so that one call is one question still.
+#[inline(always)]
+fn answer(q: &Question, memory: impl Memory, address: u64, log: &mut [u64]) -> Words {
     let log = (&mut log[..LOG]).try_into().expect("so many words");
     let ends = Ends { first: NO_LEAF, second: NO_LEAF, place: Place::Stage1, level: 0, at: 0 };
     let mut trail = Trail { log, count: 0, notes: ends };
-    let walked = Walker::new(q, capture).access(&first(q, bit(address, 55)), address, &mut trail);
+    let walked = Walker::new(q, memory).access(&first(q, bit(address, 55)), address, &mut trail);
     let (ends, reads) = (&trail.notes, trail.count as u64);
     match walked {
         Ok(output) => translated(q, output, ends, reads),

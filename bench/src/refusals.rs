@@ -60,13 +60,13 @@ pub fn ends_high(capture: Capture) -> bool {
     capture.base.checked_add(capture.bytes.len() as u64).map_or(true, |end| end > 1 << 48)
 }
 
-/// The refusals of a question, in their order.
-pub fn refusal(q: &Question, capture: Capture, words: usize) -> Option<Words> {
+/// The refusals of a question, in their order, of a capture that may be high and with a log of so many words.
+pub fn refusal(q: &Question, high: bool, words: usize) -> Option<Words> {
     let refused = |number, item| Some(Words { number, item, ..Words::default() });
     if words < LOG {
         return refused(10, 0);
     }
-    if ends_high(capture) {
+    if high {
         return refused(11, 0);
     }
     match item(q) {

@@ -2,7 +2,8 @@
 //! Slices are safe, each stage is one loop over its levels. The batch and the question share it.
 use crate::attributes::{reserved_shareability, MAIR, NORMAL, UNSETTLED};
 use crate::decode::{bit, second, First, Flat, Root, Stage1, Stage2};
-use crate::proved::{Capture, Question};
+use crate::memory::Memory;
+use crate::proved::Question;
 
 /// Words of a log, as many as one address may need.
 pub const LOG: usize = 24;
@@ -64,9 +65,9 @@ pub struct Trail<'a, N> {
     pub notes: N,
 }
 
-/// A capture with decoded registers, but for stage 1's: of those an address needs one half alone.
-pub struct Walker<'a> {
-    capture: Capture<'a>,
+/// Memory with decoded registers, but for stage 1's: of those an address needs one half alone.
+pub struct Walker<M> {
+    memory: M,
     second: Option<Stage2>,
     kind: Kind,
     el0: bool,
@@ -115,15 +116,15 @@ impl<N: Notes> Trail<'_, N> {
     }
 }
 
-impl<'a> Walker<'a> {
+impl<M: Memory> Walker<M> {
     /// For accepted settings, kinds, ELs and sizes.
-    pub fn new(q: &Question, capture: Capture<'a>) -> Walker<'a> {
+    pub fn new(q: &Question, memory: M) -> Walker<M> {
         let kind = match q.kind {
             0 => Kind::Read,
             1 => Kind::Write,
             _ => Kind::Fetch,
         };
-        Walker { capture, second: second(q), kind, el0: q.el == 0, size: q.size }
+        Walker { memory, second: second(q), kind, el0: q.el == 0, size: q.size }
     }
 
     /// Where an address leads, by stage 1 of its half and stage 2.
@@ -140,8 +141,7 @@ impl<'a> Walker<'a> {
 
     /// A descriptor, if all its bytes are in the capture.
     fn read(&self, at: u64, trail: &mut Trail<impl Notes>) -> Option<u64> {
-        let offset = at.wrapping_sub(self.capture.base) as usize;
-        let eight = self.capture.bytes.get(offset..)?.get(..8)?;
+        let eight = self.memory.eight(at)?;
         trail.log[trail.count] = at;
         trail.count += 1;
         // Cannot fail, and costs nothing: there are eight bytes.

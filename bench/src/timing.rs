@@ -63,8 +63,8 @@ fn timed(way: usize, workload: &Workload, addresses: &[u64], lent: &mut Lent) ->
         1 => {
             proved::batch(q, capture, addresses, outputs, numbers);
         }
-        2 => one_by_one(question::ask, q, capture, addresses, outputs, numbers, log),
-        _ => one_by_one(proved::ask, q, capture, addresses, outputs, numbers, log),
+        2 => one_by_one(|at, log| question::ask(q, capture, at, log), addresses, outputs, numbers, log),
+        _ => one_by_one(|at, log| proved::ask(q, capture, at, log), addresses, outputs, numbers, log),
     })
 }
 

@@ -5,13 +5,13 @@ use clap_complete::Shell;
 use humpelkaas::{Access, Kind};
 use std::path::PathBuf;
 
-/// Where do a guest's addresses land? Answers from a memory capture of an Arm board, by the proved VMSAv8-64 walk of both stages, with
-/// granules of 4KB, 16KB and 64KB.
+/// Where do a guest's addresses land? Answers from a memory capture of an Arm board, raw or a core file, by the proved VMSAv8-64 walk of
+/// both stages, with granules of 4KB, 16KB and 64KB.
 ///
 /// Numbers are decimal, or hexadecimal after 0x.
 ///
-/// Exit status: 0 complete; 1 something is absent from the capture or unsettled by Arm, or there is a finding; 2 refused; 3 something
-/// could not be read or written; 64 wrong usage.
+/// Exit status: 0 complete; 1 something is absent from the capture or unsettled by Arm, or there is a finding or a short bank; 2 refused;
+/// 3 something could not be read or written; 64 wrong usage.
 #[derive(Parser)]
 #[command(name = "humpelkaas", version, max_term_width = 100)]
 pub struct Arguments {
@@ -29,7 +29,9 @@ pub enum Verb {
     Audit(Audit),
     /// Show what a guest can reach, as a table and as a picture
     Map(Map),
-    /// Write a small sample capture of two guests, and run ask, batch, audit and map over it
+    /// List which physical memory a core file has
+    Banks(Banks),
+    /// Write two small samples, a raw capture and a core file, and run the other verbs over them
     Sample(Sample),
     /// Print a shell's completions of this command
     Completions {
@@ -40,12 +42,15 @@ pub enum Verb {
 
 #[derive(Args)]
 pub struct Memory {
-    /// The capture: raw bytes of physical memory
+    /// The capture: a core file of the debugger (ELF64), or raw bytes of physical memory
     #[arg(long, value_name = "FILE")]
     pub capture: PathBuf,
-    /// The physical address of the capture's first byte
+    /// The physical address of a raw capture's first byte. A core file's headers have its addresses
     #[arg(long, value_name = "ADDRESS", value_parser = number::parse)]
-    pub base: u64,
+    pub base: Option<u64>,
+    /// Take the capture as raw bytes, also if they begin like a core file
+    #[arg(long, requires = "base")]
+    pub raw: bool,
 }
 
 #[derive(Args)]
@@ -142,6 +147,16 @@ pub struct Map {
     /// Write the picture of physical memory to this file
     #[arg(long, value_name = "FILE")]
     pub svg: Option<PathBuf>,
+    /// Print JSON
+    #[arg(long)]
+    pub json: bool,
+}
+
+#[derive(Args)]
+pub struct Banks {
+    /// The core file
+    #[arg(long, value_name = "FILE")]
+    pub capture: PathBuf,
     /// Print JSON
     #[arg(long)]
     pub json: bool,

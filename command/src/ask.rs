@@ -5,6 +5,7 @@ use crate::refused;
 use crate::registers;
 use crate::results;
 use crate::scope;
+use crate::short;
 use crate::steps::{self, Says, Step};
 use crate::trouble::{standard_output, Status, Trouble};
 use humpelkaas::{translate, Answer, Fault, Stage, Told};
@@ -156,7 +157,7 @@ pub fn run(ask: &Ask, out: &mut dyn Write) -> Result<Status, Trouble> {
     let registers = registers::read(&ask.guest.registers)?;
     let beyond = scope::bits(&registers);
     scope::warn(&beyond);
-    let capture = CaptureFile::read(&ask.memory.capture, ask.memory.base)?;
+    let capture = CaptureFile::read(&ask.memory)?;
     let access = ask.manner.access();
     let told = translate(capture.capture(), &registers, access, ask.address);
     let steps = steps::steps(&capture, &registers, access, ask.address, &told)
@@ -174,6 +175,7 @@ pub fn run(ask: &Ask, out: &mut dyn Write) -> Result<Status, Trouble> {
             "answer": answer_json(&told.answer),
             "reads": told.reads.len(),
             "steps": steps_json(&steps, &told.answer),
+            "short_banks": short::json(capture.banks()),
             "out_of_scope": beyond,
             "warning": scope::words(&beyond),
         });

@@ -10,6 +10,7 @@ use crate::refused;
 use crate::registers;
 use crate::results;
 use crate::scope;
+use crate::short;
 use crate::trouble::{standard_output, Status, Trouble};
 use humpelkaas::{audit, AuditAnswer, Finding, Grant, Registers, Table};
 use serde_json::{json, Value};
@@ -100,7 +101,7 @@ impl Maps {
 }
 
 /// So many of something.
-fn counted(count: usize, what: &str) -> String {
+pub fn counted(count: usize, what: &str) -> String {
     format!("{count} {what}{}", if count == 1 { "" } else { "s" })
 }
 
@@ -130,7 +131,7 @@ fn text(answer: &AuditAnswer, maps: Option<&Maps>, lists: &Lists) -> String {
     format!("{}\n{explained}\n", first(answer))
 }
 
-fn answer_json(answer: &AuditAnswer, maps: Option<&Maps>, out_of_scope: &[&str]) -> Value {
+fn answer_json(answer: &AuditAnswer, maps: Option<&Maps>, capture: &CaptureFile, out_of_scope: &[&str]) -> Value {
     let (number, item, address, what_to_do) = match answer {
         AuditAnswer::Clean => (0, None, None, None),
         AuditAnswer::Found { finding, address } => (finding.number(), None, Some(hex(*address)), Some(advice(*finding))),
@@ -144,6 +145,7 @@ fn answer_json(answer: &AuditAnswer, maps: Option<&Maps>, out_of_scope: &[&str])
         "words": answer.to_string(),
         "what_to_do": what_to_do,
         "entry": maps.map(Maps::json),
+        "short_banks": short::json(capture.banks()),
         "out_of_scope": out_of_scope,
         "warning": scope::words(out_of_scope),
     })
@@ -156,7 +158,7 @@ pub fn run(arguments: &Audit, out: &mut dyn Write) -> Result<Status, Trouble> {
     let out_of_scope = scope::bits(&registers);
     scope::warn(&out_of_scope);
     let lists = Lists { grants: lists::grants(&arguments.grants)?, tables: lists::tables(&arguments.tables)? };
-    let capture = CaptureFile::read(&arguments.memory.capture, arguments.memory.base)?;
+    let capture = CaptureFile::read(&arguments.memory)?;
     let answer = audit(capture.capture(), &registers.el2, &lists.grants, &lists.tables);
     let maps = match answer {
         AuditAnswer::Found { finding, address } => lists.maps(&capture, &registers, finding, address),
@@ -164,7 +166,7 @@ pub fn run(arguments: &Audit, out: &mut dyn Write) -> Result<Status, Trouble> {
     };
     capture.unchanged()?;
     let printed = if arguments.json {
-        format!("{:#}\n", answer_json(&answer, maps.as_ref(), &out_of_scope))
+        format!("{:#}\n", answer_json(&answer, maps.as_ref(), &capture, &out_of_scope))
     } else {
         text(&answer, maps.as_ref(), &lists)
     };

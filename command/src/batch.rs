@@ -7,6 +7,7 @@ use crate::refused;
 use crate::registers;
 use crate::results::{self, Results, STANDARD_INPUT};
 use crate::scope;
+use crate::short;
 use crate::trouble::{say, standard_output, Status, Trouble};
 use humpelkaas::{batch, Access, Capture, Entries, Ledger, Refusal, Registers, BATCH};
 use rayon::prelude::*;
@@ -23,6 +24,7 @@ struct Question<'a> {
     registers: &'a Registers,
     access: Access,
     format: Format,
+    short_banks: &'a [usize],
     out_of_scope: &'a [&'static str],
     warning: Option<&'a str>,
 }
@@ -33,6 +35,8 @@ struct Line<'a> {
     address: String,
     answer: u64,
     output: String,
+    #[serde(skip_serializing_if = "<[_]>::is_empty")]
+    short_banks: &'a [usize],
     #[serde(skip_serializing_if = "<[_]>::is_empty")]
     out_of_scope: &'a [&'static str],
     #[serde(skip_serializing_if = "Option::is_none")]
@@ -67,7 +71,8 @@ impl Question<'_> {
     fn json(&self, addresses: &[u64], entries: &Entries, text: &mut Vec<u8>) {
         for ((address, number), output) in addresses.iter().zip(&entries.numbers).zip(&entries.outputs) {
             let (address, output) = (format!("{address:#x}"), format!("{output:#x}"));
-            let line = Line { address, answer: *number, output, out_of_scope: self.out_of_scope, warning: self.warning };
+            let Question { short_banks, out_of_scope, warning, .. } = *self;
+            let line = Line { address, answer: *number, output, short_banks, out_of_scope, warning };
             let _ = serde_json::to_writer(&mut *text, &line);
             text.push(b'\n');
         }
@@ -139,12 +144,14 @@ pub fn run(arguments: &Batch, out: &mut dyn Write) -> Result<Status, Trouble> {
     scope::warn(&out_of_scope);
     let warning = scope::words(&out_of_scope);
     let mut addresses = Addresses::open(&arguments.addresses)?;
-    let capture = CaptureFile::read(&arguments.memory.capture, arguments.memory.base)?;
+    let capture = CaptureFile::read(&arguments.memory)?;
+    let short_banks = short::numbers(capture.banks());
     let question = Question {
         capture: capture.capture(),
         registers: &registers,
         access: arguments.manner.access(),
         format: arguments.format,
+        short_banks: &short_banks,
         out_of_scope: &out_of_scope,
         warning: warning.as_deref(),
     };

@@ -5,6 +5,7 @@ mod addresses;
 mod arguments;
 mod ask;
 mod audit;
+mod banks;
 mod batch;
 mod capture;
 mod granule;
@@ -23,9 +24,11 @@ mod registers;
 mod results;
 mod sample;
 mod scope;
+mod short;
 mod steps;
 mod text;
 mod trouble;
+mod whole;
 
 use arguments::{Arguments, Verb};
 use clap::{CommandFactory, Parser};
@@ -47,6 +50,7 @@ fn run(verb: &Verb, out: &mut dyn Write) -> Result<Status, Trouble> {
         Verb::Batch(batch) => batch::run(batch, out),
         Verb::Audit(audit) => audit::run(audit, out),
         Verb::Map(map) => map::run(map, out),
+        Verb::Banks(banks) => banks::run(banks, out),
         Verb::Completions { shell } => complete(*shell, out),
         Verb::Sample(sample) => sample::run(sample, out),
     }

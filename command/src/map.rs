@@ -11,6 +11,7 @@ use crate::refused;
 use crate::registers;
 use crate::results::{self, Results};
 use crate::scope;
+use crate::short;
 use crate::trouble::{say, standard_output, Status, Trouble};
 use humpelkaas::{audit, AuditAnswer, Capture, Grant, Refusal, Registers};
 use serde_json::{json, Value};
@@ -125,12 +126,13 @@ fn guest_json(guest: &Guest) -> Value {
     })
 }
 
-fn all_json(guests: &[Guest], findings: &[Finding], out_of_scope: &[String]) -> Value {
+fn all_json(guests: &[Guest], findings: &[Finding], capture: &CaptureFile, out_of_scope: &[String]) -> Value {
     let finding =
         |finding: &Finding| json!({ "physical": [hex(finding.frames.start), hex(finding.frames.end - 1)], "words": finding.what });
     json!({
         "guests": guests.iter().map(guest_json).collect::<Vec<_>>(),
         "findings": findings.iter().map(finding).collect::<Vec<_>>(),
+        "short_banks": short::json(capture.banks()),
         "out_of_scope": out_of_scope,
         "warning": scope::words(out_of_scope),
     })
@@ -159,13 +161,21 @@ fn refusal(capture: Capture, registers: &Registers, grants: Option<&[Grant]>) ->
     }
 }
 
+/// The file that a refusal is about.
+fn about<'a>(refusal: Refusal, capture: &'a Path, registers: &'a Path) -> &'a Path {
+    match refusal {
+        Refusal::CoreFile => capture,
+        _ => registers,
+    }
+}
+
 pub fn run(arguments: &Map, out: &mut dyn Write) -> Result<Status, Trouble> {
     if !arguments.grants.is_empty() && arguments.grants.len() != arguments.registers.len() {
         return Err(Trouble::Usage("give --grants once for each --registers, in the same order".to_string()));
     }
     let inputs = [&arguments.memory.capture].into_iter().chain(&arguments.registers).chain(&arguments.grants);
     results::not_an_input(arguments.svg.as_deref(), &inputs.map(PathBuf::as_path).collect::<Vec<_>>())?;
-    let capture = CaptureFile::read(&arguments.memory.capture, arguments.memory.base)?;
+    let capture = CaptureFile::read(&arguments.memory)?;
     let mut guests = Vec::new();
     let mut out_of_scope = Vec::new();
     for (index, path) in arguments.registers.iter().enumerate() {
@@ -176,6 +186,7 @@ pub fn run(arguments: &Map, out: &mut dyn Write) -> Result<Status, Trouble> {
         out_of_scope.extend(bits);
         let grants = arguments.grants.get(index).map(|path| lists::grants(path)).transpose()?;
         if let Some(refusal) = refusal(capture.capture(), &registers, grants.as_deref()) {
+            let path = about(refusal, &arguments.memory.capture, path);
             say(&format!("{}: {}: {}", path.display(), refused::numbers(refusal), refused::explained(refusal)));
             return Ok(Status::Refused);
         }
@@ -186,7 +197,8 @@ pub fn run(arguments: &Map, out: &mut dyn Write) -> Result<Status, Trouble> {
     if let Some(target) = &arguments.svg {
         draw(target, &guests, &findings)?;
     }
-    let printed = if arguments.json { format!("{:#}\n", all_json(&guests, &findings, &out_of_scope)) } else { text(&guests, &findings) };
+    let printed =
+        if arguments.json { format!("{:#}\n", all_json(&guests, &findings, &capture, &out_of_scope)) } else { text(&guests, &findings) };
     out.write_all(printed.as_bytes()).and_then(|()| out.flush()).map_err(standard_output)?;
     let whole = guests.iter().all(Guest::is_whole);
     Ok(if whole && findings.is_empty() { Status::Complete } else { Status::Incomplete })

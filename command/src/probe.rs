@@ -71,7 +71,7 @@ fn tables(imposed: u64, leaf: u64) -> Vec<u8> {
 }
 
 fn ask(registers: &Registers, bytes: &[u8], kind: Kind, el: u64) -> Answer {
-    translate(Capture { base: 0, bytes }, registers, Access { kind, el, size: 1 }, 0).answer
+    translate(Capture::Raw { base: 0, bytes }, registers, Access { kind, el, size: 1 }, 0).answer
 }
 
 fn rights(registers: &Registers, bytes: &[u8]) -> Rights {

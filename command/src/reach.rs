@@ -71,7 +71,7 @@ impl<'a> Tables<'a> {
         let registers = stage2_alone(registers);
         let granule = Granule::stage2(&registers);
         let mut tables = Tables { capture, registers, granule, start: 0, root: Vec::new() };
-        let empty = Capture { base: 0, bytes: &[] };
+        let empty = Capture::Raw { base: 0, bytes: &[] };
         let mut ipa = 0;
         while let Answer::Absent { address, level, .. } = read_at(empty, &registers, ipa).0 {
             tables.start = level;

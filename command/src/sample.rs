@@ -1,7 +1,10 @@
-//! A small sample: a capture of a board with two guests, one that moves the plate and one that converts the spectra.
+//! Two small samples.
 //!
-//! The first guest's tables are document 01's: a walk of three levels at each stage, all of 4KB. The second has a granule of 64KB at stage 2
-//! and of 16KB at stage 1: one page of stage 2 has all its tables. It may not write its other page, nor run its block.
+//! A raw capture of a board with two guests, one that moves the plate and one that converts the spectra. The first guest's tables are
+//! document 01's: a walk of three levels at each stage, all of 4KB. The second has a granule of 64KB at stage 2 and of 16KB at stage 1: one
+//! page of stage 2 has all its tables. It may not write its other page, nor run its block.
+//!
+//! A core file with the tables of a real guest, a Linux that KVM runs.
 use crate::arguments::{Arguments, Sample};
 use crate::results::Results;
 use crate::trouble::{self, standard_output, Status, Trouble};
@@ -41,6 +44,15 @@ const WORDS: [(u64, u64); 19] = [
     (0x4002_8018, 0x5_0343),
 ];
 
+/// The real guest's files. Where they are from, tests/real/README.md says.
+const LINUX: [(&str, &[u8]); 5] = [
+    ("linux.core", include_bytes!("../../tests/real/guest-tables.core")),
+    ("linux.registers", include_bytes!("../../tests/real/registers")),
+    ("linux.addresses", include_bytes!("../../tests/real/addresses-el0-read")),
+    ("linux.grants", include_bytes!("../../tests/real/grants")),
+    ("linux.tables", include_bytes!("../../tests/real/tables")),
+];
+
 /// The registers of a guest, with those in which the two differ.
 fn registers(vtcr: &str, vttbr: &str, tcr: &str, ttbr0: &str) -> Vec<u8> {
     let text = format!(
@@ -71,7 +83,7 @@ fn capture() -> Vec<u8> {
     bytes
 }
 
-/// The sample's files.
+/// The files of the raw capture.
 fn files() -> Vec<(&'static str, Vec<u8>)> {
     let plate = registers("0x20059", "0x40000000", "0x200800019", "0x1000");
     let spectra = registers("0x24059 # TG0 is 1: 64KB", "0x40008000", "0x200808019 # TG0 is 2: 16KB", "0x10000");
@@ -113,7 +125,7 @@ fn is_ours(folder: &Path) -> Result<(), Trouble> {
     Err(Trouble::Usage(format!("{} is not empty: name another folder", folder.display())))
 }
 
-/// What is run over the sample, in its folder.
+/// What is run over the raw capture, in its folder.
 const RUNS: [&str; 7] = [
     "ask 0x1008 --el 0 --capture capture.bin --base 0x40000000 --registers plate.registers",
     "ask 0x4008 --el 0 --capture capture.bin --base 0x40000000 --registers spectra.registers",
@@ -124,11 +136,25 @@ const RUNS: [&str; 7] = [
     "map --svg map.svg --capture capture.bin --base 0x40000000 --registers plate.registers --grants plate.grants --registers spectra.registers --grants spectra.grants",
 ];
 
+/// What is run over the core file.
+const LINUX_RUNS: [&str; 4] = [
+    "banks --capture linux.core",
+    "ask 0x400000 --el 0 --capture linux.core --registers linux.registers",
+    "batch --el 0 --size 1 --addresses linux.addresses --output linux.csv --capture linux.core --registers linux.registers",
+    "audit --grants linux.grants --tables linux.tables --capture linux.core --registers linux.registers",
+];
+
 fn run_one(line: &str, out: &mut dyn Write) -> Result<Status, Trouble> {
     writeln!(out, "\n$ humpelkaas {line}").map_err(standard_output)?;
     let words = std::iter::once("humpelkaas").chain(line.split(' '));
     let arguments = Arguments::try_parse_from(words).map_err(|wrong| Trouble::Usage(wrong.to_string()))?;
     crate::run(&arguments.verb, out)
+}
+
+/// Runs all lines under a heading. The worst status counts.
+fn run_all(heading: &str, lines: &[&str], out: &mut dyn Write) -> Result<Status, Trouble> {
+    writeln!(out, "{heading}").map_err(standard_output)?;
+    lines.iter().try_fold(Status::Complete, |worst, line| Ok(worst.max(run_one(line, out)?)))
 }
 
 pub fn run(arguments: &Sample, out: &mut dyn Write) -> Result<Status, Trouble> {
@@ -139,11 +165,11 @@ pub fn run(arguments: &Sample, out: &mut dyn Write) -> Result<Status, Trouble> {
     for (name, bytes) in files() {
         write(&folder.join(name), &bytes)?;
     }
-    writeln!(out, "A sample capture of two guests is in {}. In that folder:", folder.display()).map_err(standard_output)?;
-    std::env::set_current_dir(folder).map_err(wrong)?;
-    let mut whole = Status::Complete;
-    for line in RUNS {
-        whole = whole.max(run_one(line, out)?);
+    for (name, bytes) in LINUX {
+        write(&folder.join(name), bytes)?;
     }
-    Ok(whole)
+    std::env::set_current_dir(folder).map_err(wrong)?;
+    let raw = run_all(&format!("A sample capture of two guests is in {}. In that folder:", folder.display()), &RUNS, out)?;
+    let core = run_all("\nBeside it is a core file with the tables of a Linux guest that KVM runs:", &LINUX_RUNS, out)?;
+    Ok(raw.max(core))
 }

@@ -59,7 +59,7 @@ pub struct Step {
 }
 
 fn first_read(registers: &Registers, access: Access, address: u64) -> Option<(Stage, u64)> {
-    match translate(Capture { base: 0, bytes: &[] }, registers, access, address).answer {
+    match translate(Capture::Raw { base: 0, bytes: &[] }, registers, access, address).answer {
         Answer::Absent { stage, level, .. } => Some((stage, level)),
         _ => None,
     }

@@ -7,7 +7,7 @@ use std::path::Path;
 #[derive(Clone, Copy, Debug, PartialEq, Eq, PartialOrd, Ord)]
 pub enum Status {
     Complete = 0,
-    /// Something was absent or unsettled, or there is a finding.
+    /// Something was absent or unsettled, or there is a finding, or the file that was listed was cut.
     Incomplete = 1,
     Refused = 2,
 }

@@ -56,7 +56,7 @@ fn clean() {
     let expected = "clean\nevery access of the guest through the root and 2 listed tables stays in its 2 grants, whatever it does\n";
     Audit::case_m().run("").ends(0).prints(expected).says("");
     let json = Audit::case_m().run("--json").ends(0).json();
-    let expected = json!({ "answer": "clean", "number": 0, "item": null, "address": null, "words": "clean", "what_to_do": null, "entry": null, "out_of_scope": [], "warning": null });
+    let expected = json!({ "answer": "clean", "number": 0, "item": null, "address": null, "words": "clean", "what_to_do": null, "entry": null, "short_banks": [], "out_of_scope": [], "warning": null });
     assert_eq!(json, expected);
 }
 
@@ -113,6 +113,7 @@ fn finding_3_in_json() {
         "words": "finding 3 at 0x40001000: the entry leads to a table that is not listed one level lower down",
         "what_to_do": LIST_IT,
         "entry": { "value": "0x40002003", "level": 2, "table": true, "to": "0x40002000", "size": "0x200000", "ipa": "0x0" },
+        "short_banks": [],
         "out_of_scope": [],
         "warning": null,
     });

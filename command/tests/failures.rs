@@ -164,7 +164,7 @@ fn a_picture_on_a_tiny_file_system() {
 /// A sample of which the capture alone fits leaves no file of which a part is missing.
 #[test]
 fn a_sample_on_a_tiny_file_system() {
-    let bench = Bench::empty(0);
+    let bench = Bench::empty(None);
     bench.run("sample whole").ends(0);
     let script = "\"$0\" sample tiny >/dev/null; status=$?; for file in tiny/*; do cmp -s $file whole/${file#tiny/} || echo half: $file; done; exit $status";
     let kilobytes = bench.bytes("whole/capture.bin").len() as u64 >> 10;
@@ -269,20 +269,24 @@ const CHANGES: [(&str, Change); 6] = [
     ("removed", |bench| fs::remove_file(bench.path("capture.bin")).expect("the capture")),
 ];
 
-/// The cases, with a capture that is older than any tick of a file system's clock.
-fn cases_of_yesterday() -> Bench {
-    let bench = Bench::cases();
+/// A bench with a capture that is older than any tick of a file system's clock.
+fn of_yesterday(bench: Bench) -> Bench {
     assert!(bench.through("touch", "-d yesterday capture.bin").status().expect("touch runs").success());
     bench
+}
+
+/// Each change of a raw capture and of a core file.
+fn changes() -> impl Iterator<Item = (&'static str, Change, Bench)> {
+    let both = |(name, change): (&'static str, Change)| [(name, change, Bench::cases()), (name, change, Bench::core_cases())];
+    CHANGES.into_iter().flat_map(both).map(|(name, change, bench)| (name, change, of_yesterday(bench)))
 }
 
 const CHANGED: &str = "humpelkaas: the capture capture.bin changed while it was used: run again when nothing writes to it\n";
 
 #[test]
 fn a_capture_that_changes_during_a_batch() {
-    for (name, change) in CHANGES {
+    for (name, change, bench) in changes() {
         println!("{name}");
-        let bench = cases_of_yesterday();
         bench.write("out.csv", "old");
         let held = Held::batch(&bench, "--output out.csv");
         change(&bench);
@@ -297,9 +301,8 @@ fn a_capture_that_changes_during_a_batch() {
 /// Results that are on standard output already are not said to be complete.
 #[test]
 fn a_capture_that_changes_before_results_are_printed() {
-    for (name, change) in CHANGES {
+    for (name, change, bench) in changes() {
         println!("{name}");
-        let bench = cases_of_yesterday();
         let mut command = bench.command(&bench.words("batch --addresses -"));
         command.stdin(Stdio::piped()).stdout(Stdio::piped()).stderr(Stdio::piped());
         let mut child = command.spawn().expect("the command runs");
@@ -315,9 +318,8 @@ fn a_capture_that_changes_before_results_are_printed() {
 /// A map reads its capture before the registers, for which it waits here.
 #[test]
 fn a_capture_that_changes_during_a_map() {
-    for (name, change) in CHANGES {
+    for (name, change, bench) in changes() {
         println!("{name}");
-        let bench = cases_of_yesterday();
         let registers = bench.text("guest.registers");
         fs::remove_file(bench.path("guest.registers")).expect("the registers");
         assert!(bench.through("mkfifo", "guest.registers").status().expect("mkfifo runs").success());
@@ -341,7 +343,7 @@ fn a_capture_that_changes_during_a_map() {
 /// Reading a capture meanwhile, or copying it, is no change of it.
 #[test]
 fn a_capture_that_is_only_read_meanwhile() {
-    let bench = cases_of_yesterday();
+    let bench = of_yesterday(Bench::cases());
     let held = Held::batch(&bench, "--output out.csv");
     fs::copy(bench.path("capture.bin"), bench.path("copy")).expect("a copy");
     bench.over("ask 0x1008").ends(0);

@@ -141,6 +141,7 @@ fn the_sample_in_json() {
             guest("spectra", &spectra, "0x10000", json!([["0x40008000", "0x40009fff"], ["0x40010000", "0x4001ffff"]])),
         ],
         "findings": [],
+        "short_banks": [],
         "out_of_scope": [],
         "warning": null,
     });

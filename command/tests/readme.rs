@@ -11,6 +11,25 @@ fn block(readme: &str, first: &str) -> String {
     text.join("\n").trim_end().to_string()
 }
 
+/// A line of the README for lines that it leaves out.
+const LEFT_OUT: &str = "     ..";
+
+/// Holds printed lines against those shown. After lines that are left out, it goes on where the next shown one is printed.
+fn check(printed: &str, shown: &str) {
+    let mut printed = printed.trim_end().lines();
+    let mut skips = false;
+    for line in shown.lines() {
+        if line == LEFT_OUT {
+            skips = true;
+            continue;
+        }
+        let found = if skips { printed.by_ref().find(|printed| *printed == line) } else { printed.next() };
+        assert_eq!(found, Some(line));
+        skips = false;
+    }
+    assert_eq!(printed.next(), None);
+}
+
 #[test]
 fn the_sample_prints_what_the_readme_shows() {
     let folder = tempfile::tempdir().unwrap();
@@ -18,7 +37,10 @@ fn the_sample_prints_what_the_readme_shows() {
     assert!(sample.status.success());
     let printed = String::from_utf8(sample.stdout).unwrap();
     let readme = fs::read_to_string(Path::new(env!("CARGO_MANIFEST_DIR")).join("../README.md")).unwrap();
-    let shown = block(&readme, printed.lines().next().unwrap());
-    assert_eq!(printed.trim_end(), shown);
+    let (raw, core) = printed.split_at(printed.find("Beside it is a core file").unwrap());
+    for part in [raw, core] {
+        check(part, &block(&readme, part.lines().next().unwrap()));
+    }
+    assert!(!block(&readme, raw.lines().next().unwrap()).contains(LEFT_OUT), "only banks are left out");
     assert!(folder.path().join("target/sample/map.svg").is_file());
 }

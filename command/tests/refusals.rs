@@ -123,8 +123,8 @@ fn an_audits_refusal_in_json() {
 
 #[test]
 fn a_capture_that_ends_too_high() {
-    let said = "refused 11: the capture's base plus its length is over 2^48.\n\
-        What to do: check --base, and that the capture is one of physical memory below 2^48.\n";
+    let said = "refused 11: the capture's base plus its length, or a bank's address plus its size, is over 2^48.\n\
+        What to do: check --base or, with the verb banks, the core file's addresses: physical memory lies below 2^48.\n";
     let high = |base| Bench::new(&Memory { base, bytes: vec![0; 0x1000] }, &Registers::cases());
     for base in [0xffff_ffff_f001, u64::MAX, u64::MAX - 0xfff] {
         let bench = high(base);

@@ -25,6 +25,9 @@ fn wrong_usage() {
         over("audit --grants guest.registers"),
         over("audit --tables guest.registers"),
         "map --capture capture.bin --base 0".to_string(),
+        "banks".to_string(),
+        "banks --capture capture.bin --base 0x40000000".to_string(),
+        "banks --capture capture.bin --raw".to_string(),
         "sample".to_string(),
         "completions".to_string(),
         "completions cmd".to_string(),
@@ -58,7 +61,7 @@ fn wrong_numbers() {
 #[test]
 fn help_and_version() {
     let bench = Bench::cases();
-    let verbs = ["ask", "batch", "audit", "map", "sample", "completions"];
+    let verbs = ["ask", "batch", "audit", "map", "banks", "sample", "completions"];
     for help in ["--help", "-h", "help"] {
         bench.run(help).ends(0).shows(&verbs).says("");
     }
@@ -77,7 +80,7 @@ fn options() {
     let page = std::fs::read_to_string(concat!(env!("CARGO_MANIFEST_DIR"), "/../packaging/humpelkaas.1")).expect("the manual page");
     let synopsis = page.split(".SH DESCRIPTION").next().expect("a synopsis").replace("\\-", "-");
     let bench = Bench::cases();
-    for verb in ["ask", "batch", "audit", "map"] {
+    for verb in ["ask", "batch", "audit", "map", "banks"] {
         let help = bench.run(&format!("{verb} --help")).ends(0).stdout;
         let of_help = words_with(&help, "--");
         let part = synopsis.split(".SY \"humpelkaas ").find(|part| part.starts_with(verb)).expect("the verb in the manual page");

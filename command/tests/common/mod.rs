@@ -1,10 +1,12 @@
 //! What all tests share: a board's memory and registers as files, runs of the built command, and what they must leave.
 #![allow(dead_code)] // No file of tests needs all of it.
 
+pub mod core;
 pub mod held;
 pub mod system;
 pub mod walk;
 
+use self::core::Core;
 use serde_json::Value;
 use std::fmt::Debug;
 use std::fs;
@@ -122,18 +124,27 @@ impl Memory {
 /// A folder with capture.bin and guest.registers, in which the command is run.
 pub struct Bench {
     folder: TempDir,
-    base: u64,
+    /// Of a raw capture.
+    base: Option<u64>,
 }
 
 impl Bench {
     pub fn new(memory: &Memory, registers: &Registers) -> Bench {
-        let bench = Bench::empty(memory.base);
-        bench.write("capture.bin", &memory.bytes);
-        bench.write("guest.registers", registers.text());
-        bench
+        Bench::empty(Some(memory.base)).with(&memory.bytes, registers)
     }
 
-    pub fn empty(base: u64) -> Bench {
+    /// The same with a capture that is the bytes of a core file.
+    pub fn core(file: &[u8], registers: &Registers) -> Bench {
+        Bench::empty(None).with(file, registers)
+    }
+
+    fn with(self, capture: &[u8], registers: &Registers) -> Bench {
+        self.write("capture.bin", capture);
+        self.write("guest.registers", registers.text());
+        self
+    }
+
+    pub fn empty(base: Option<u64>) -> Bench {
         Bench { folder: TempDir::new().expect("a folder for temporary files"), base }
     }
 
@@ -142,9 +153,14 @@ impl Bench {
         Bench::new(&Memory::cases(), &Registers::cases())
     }
 
+    /// Document 01's cases as a core file, in one bank.
+    pub fn core_cases() -> Bench {
+        Bench::core(&Core::split(&Memory::cases(), &[]).file(), &Registers::cases())
+    }
+
     /// The command's own sample, whose second guest (spectra) is the one asked.
     pub fn sample() -> Bench {
-        let bench = Bench::empty(0x4000_0000);
+        let bench = Bench::empty(Some(0x4000_0000));
         bench.run("sample .").ends(0);
         fs::copy(bench.path("spectra.registers"), bench.path("guest.registers")).expect("the sample's registers");
         bench
@@ -176,7 +192,8 @@ impl Bench {
 
     /// Words over this capture and these registers, with their options at the end.
     pub fn words(&self, words: &str) -> String {
-        format!("{words} --capture capture.bin --base {:#x} --registers guest.registers", self.base)
+        let base = self.base.map_or(String::new(), |base| format!("--base {base:#x} "));
+        format!("{words} --capture capture.bin {base}--registers guest.registers")
     }
 
     /// The command with words that have no spaces in them.

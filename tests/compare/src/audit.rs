@@ -1,4 +1,4 @@
-//! An independent audit: "The audit" of document 01, with document 02, §2 and §3, in plain Rust, written without regard to the proved
+//! An independent audit: "The audit" of document 01, with document 02, §1 to §3, in plain Rust, written without regard to the proved
 //! code.
 use crate::walk::{bits, failing_item, stage2_on, Capture, Granule, OutputSize, Question, Start};
 use std::ops::Range;
@@ -164,15 +164,14 @@ pub struct Finding {
 fn examine(table: Table, capture: Capture, grants: &[Range<u64>], listed: &[(u64, u64)]) -> Option<Finding> {
     let found = |number, address| Some(Finding { number, address, table });
     let bytes = table.bytes();
-    // The capture's end is at most 2^48 by answer 11.
-    if !inside(&bytes, &(capture.base..capture.base + capture.bytes.len() as u64)) {
-        return found(1, table.address);
-    }
+    let entries: Vec<u64> = match bytes.clone().step_by(8).map(|at| capture.descriptor(at)).collect() {
+        Some(entries) => entries,
+        None => return found(1, table.address),
+    };
     if grants.iter().any(|grant| touch(grant, &bytes)) {
         return found(2, table.address);
     }
-    for at in bytes.step_by(8) {
-        let descriptor = capture.descriptor(at).expect("the table is whole in the capture");
+    for (at, descriptor) in bytes.step_by(8).zip(entries) {
         match entry(descriptor, &table) {
             Entry::Table(next) if !listed.contains(&(next, table.level + 1)) => return found(3, at),
             Entry::Leaf(leaf) if !grants.iter().any(|grant| inside(&leaf, grant)) => return found(4, at),
@@ -182,8 +181,9 @@ fn examine(table: Table, capture: Capture, grants: &[Range<u64>], listed: &[(u64
     None
 }
 
-/// Answers 11, 12, 15 and 16.
+/// Answers 17, 11, 12, 15 and 16.
 pub enum Refusal {
+    CoreFile,
     HighCapture,
     Settings(u64),
     Lists,
@@ -198,6 +198,9 @@ pub enum Verdict {
 
 /// The audit by PAMax and the EL2 registers of a question.
 pub fn audit(q: &Question, capture: Capture, lists: &Lists) -> Verdict {
+    if capture.is_no_core() {
+        return Verdict::Refused(Refusal::CoreFile);
+    }
     if capture.is_high() {
         return Verdict::Refused(Refusal::HighCapture);
     }

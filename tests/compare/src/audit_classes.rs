@@ -7,7 +7,7 @@ use crate::classes::{HIGH, RESERVED, SETTINGS};
 use crate::counts::Counts;
 use crate::geometry::{by_granule, granule_name, is_leaf_level, no_start, no_starts};
 use crate::proved::AuditWords;
-use crate::walk::{bit, bits, is_listed, stage2_on, Capture, Granule, OutputSize, Question, GRANULES};
+use crate::walk::{bit, bits, is_listed, stage2_on, Bank, Granule, OutputSize, Question, GRANULES};
 use std::cmp::Ordering;
 use std::collections::BTreeSet;
 use std::ops::Range;
@@ -71,7 +71,7 @@ fn limits(lists: &Lists, table_size: u64) -> [(&'static str, bool); 8] {
 }
 
 /// What a clean audit's tables have.
-fn contents(capture: Capture, tables: &[Table]) -> BTreeSet<String> {
+fn contents(capture: Bank, tables: &[Table]) -> BTreeSet<String> {
     let mut all = BTreeSet::new();
     for table in tables {
         for at in table.bytes().step_by(8) {
@@ -214,7 +214,7 @@ impl Classes {
         all.add(NO_ROOT, ["base beyond output size", "base beyond PAMax alone"].map(name));
     }
 
-    fn meet_clean(&mut self, q: &Question, capture: Capture, lists: &Lists) {
+    fn meet_clean(&mut self, q: &Question, capture: Bank, lists: &Lists) {
         let tables = tables(q, lists);
         let root = tables[0];
         let size = match root.entries.cmp(&(1 << root.granule.stride())) {
@@ -245,7 +245,7 @@ impl Classes {
         }
     }
 
-    fn meet_finding(&mut self, capture: Capture, lists: &Lists, finding: &Finding) {
+    fn meet_finding(&mut self, capture: Bank, lists: &Lists, finding: &Finding) {
         let (table, bytes) = (finding.table, finding.table.bytes());
         let name = |told: &str| by_granule(Some(table.granule), told);
         self.0.count(&by_table(finding.number), name(&table_name(&table)));
@@ -285,7 +285,7 @@ impl Classes {
     }
 
     /// What a finding's entry leads to.
-    fn meet_entry(&mut self, q: &Question, capture: Capture, lists: &Lists, finding: &Finding) {
+    fn meet_entry(&mut self, q: &Question, capture: Bank, lists: &Lists, finding: &Finding) {
         let (descriptor, table) = (capture.descriptor(finding.address).unwrap_or(0), finding.table);
         match entry(descriptor, &table) {
             Entry::Table(next) if finding.number == 3 => {
@@ -361,13 +361,14 @@ impl Classes {
     }
 
     /// Counts an audit under every class that it is in, by its answer.
-    pub fn meet(&mut self, q: &Question, capture: Capture, lists: &Lists, verdict: &Verdict) {
+    pub fn meet(&mut self, q: &Question, capture: Bank, lists: &Lists, verdict: &Verdict) {
         match verdict {
             Verdict::Clean => self.meet_clean(q, capture, lists),
             Verdict::Found(finding) => {
                 self.meet_finding(capture, lists, finding);
                 self.meet_entry(q, capture, lists, finding);
             }
+            Verdict::Refused(Refusal::CoreFile) => unreachable!("a raw capture is no file"),
             Verdict::Refused(Refusal::HighCapture) => {
                 let wraps = capture.base.checked_add(capture.bytes.len() as u64).is_none();
                 self.0.count(HIGH, if wraps { "past 2^64" } else { "past 2^48" });

@@ -4,10 +4,10 @@ use crate::audit_classes::Classes;
 use crate::audit_damage::Audits;
 use crate::proved::{self, AuditWords};
 use crate::vectors::{audit_answer_text, audit_text, AuditLine};
-use crate::walk::Capture;
+use crate::walk::{Bank, Capture};
 use crate::{blamed, unread, PRINTED};
 
-fn print(ours: &AuditWords, proved: &AuditWords) {
+pub fn print(ours: &AuditWords, proved: &AuditWords) {
     for (name, words) in [("audit ", ours), ("proved", proved)] {
         println!("  {name}: {} | {words:x?}", audit_answer_text(words));
     }
@@ -19,7 +19,7 @@ pub fn hold(text: &str) -> bool {
         Some(line) => line,
         None => return unread(text),
     };
-    let capture = Capture { base: line.base, bytes: &line.bytes };
+    let capture = Capture::Raw(Bank::whole(line.base, &line.bytes));
     let ours = AuditWords::from(&audit(&line.question, capture, &line.lists));
     let proved = proved::audit(&line.question, capture, &line.lists);
     let why = blamed(line.agrees(&ours), line.agrees(&proved)).or_else(|| difference(&ours, &proved, true));
@@ -48,16 +48,16 @@ pub fn compare(count: u64, seed: u64) -> (u64, Vec<String>) {
     let mut differ = 0;
     for _ in 0..count {
         let (image, asked) = audits.next();
-        let (q, capture, lists) = (&asked.question, asked.part.capture(image), &asked.lists);
+        let (q, bank, lists) = (&asked.question, asked.part.bank(image), &asked.lists);
         let before = lists.clone();
-        let verdict = audit(q, capture, lists);
+        let verdict = audit(q, Capture::Raw(bank), lists);
         let ours = AuditWords::from(&verdict);
-        let proved = proved::audit(q, capture, lists);
-        classes.meet(q, capture, lists, &verdict);
+        let proved = proved::audit(q, Capture::Raw(bank), lists);
+        classes.meet(q, bank, lists, &verdict);
         if let Some(why) = difference(&ours, &proved, image.kept() && *lists == before) {
             differ += 1;
             if differ <= PRINTED {
-                println!("{why}: {} | {}", audit_text(q, asked.part.capture(image), lists), audit_answer_text(&ours));
+                println!("{why}: {} | {}", audit_text(q, asked.part.bank(image), lists), audit_answer_text(&ours));
                 print(&ours, &proved);
             }
         }

@@ -8,7 +8,7 @@ use crate::walk::{self, Capture, Question};
 use humpelkaas::Ledger;
 
 /// The longest list that is accepted.
-const MOST: usize = 4096;
+pub const MOST: usize = 4096;
 
 /// Lengths that every run meets first.
 const LENGTHS: [usize; 6] = [0, 1, 2, MOST - 1, MOST, MOST + 1];
@@ -18,14 +18,14 @@ const KEPT: u64 = 0xfeed_face_cafe_f00d;
 
 /// What a batch gives: its answer, and both lists.
 #[derive(PartialEq, Eq)]
-struct Told {
-    words: BatchWords,
-    outputs: Vec<u64>,
-    numbers: Vec<u64>,
+pub struct Told {
+    pub words: BatchWords,
+    pub outputs: Vec<u64>,
+    pub numbers: Vec<u64>,
 }
 
 /// Addresses around a question's, with some far away.
-fn addresses(random: &mut Random, q: &Question, count: usize) -> Vec<u64> {
+pub fn addresses(random: &mut Random, q: &Question, count: usize) -> Vec<u64> {
     (0..count)
         .map(|_| match random.below(8) {
             0 => q.address,
@@ -49,6 +49,9 @@ fn length(random: &mut Random, n: u64) -> usize {
 /// The walk's answers, one by one.
 fn expected(q: &Question, capture: Capture, addresses: &[u64], mut outputs: Vec<u64>, mut numbers: Vec<u64>) -> Told {
     let refused = |number, item, outputs, numbers| Told { words: BatchWords { number, item, ..BatchWords::default() }, outputs, numbers };
+    if capture.is_no_core() {
+        return refused(17, 0, outputs, numbers);
+    }
     if outputs.len() != addresses.len() || numbers.len() != addresses.len() || addresses.len() > MOST {
         return refused(14, 0, outputs, numbers);
     }
@@ -70,6 +73,40 @@ fn expected(q: &Question, capture: Capture, addresses: &[u64], mut outputs: Vec<
         } += 1;
     }
     Told { words: BatchWords { ledger, ..BatchWords::default() }, outputs, numbers }
+}
+
+/// A batch as the walk has it, and as the proved call gives it.
+pub struct Both {
+    pub wanted: Told,
+    pub proved: Told,
+}
+
+impl Both {
+    /// Puts a batch to both. One list in twenty is of another length.
+    pub fn new(random: &mut Random, q: &Question, capture: Capture, list: &[u64]) -> Both {
+        let mut other = |n: usize| if random.percent(5) { (n + random.below(3) as usize).saturating_sub(1) } else { n };
+        let (outputs, numbers) = (vec![KEPT; other(list.len())], vec![KEPT; other(list.len())]);
+        let wanted = expected(q, capture, list, outputs.clone(), numbers.clone());
+        let mut proved = Told { words: BatchWords::default(), outputs, numbers };
+        proved.words = proved::batch(q, capture, list, &mut proved.outputs, &mut proved.numbers);
+        Both { wanted, proved }
+    }
+
+    /// Whether answer 14 applies, with or without others that come before it.
+    pub fn has_bad_lists(&self, list: &[u64]) -> bool {
+        self.wanted.outputs.len() != list.len() || self.wanted.numbers.len() != list.len() || list.len() > MOST
+    }
+
+    pub fn agree(&self) -> bool {
+        self.proved == self.wanted && self.proved.words.ledger.to_string() == line(&self.wanted.words.ledger)
+    }
+
+    pub fn print(&self, q: &Question, list: &[u64]) {
+        let (told, wanted) = (&self.proved, &self.wanted);
+        let first = told.numbers.iter().zip(&wanted.numbers).zip(told.outputs.iter().zip(&wanted.outputs));
+        let at = first.take_while(|((a, b), (c, d))| a == b && c == d).count();
+        println!("batch of {}: first differs at {at}: {:x?} for {:x?}\n  {q:x?}", list.len(), told.words, wanted.words);
+    }
 }
 
 /// The ledger's line, as document 01 shows it.
@@ -130,21 +167,14 @@ pub fn compare(count: u64, seed: u64) -> (u64, Vec<String>) {
     for n in 0..count {
         let (image, asked) = questions.next();
         let q = &asked.question;
-        let capture = asked.part.capture(image);
+        let capture = Capture::Raw(asked.part.bank(image));
         let long = length(&mut random, n);
         let list = addresses(&mut random, q, long);
-        // One list in twenty is of another length.
-        let mut other = |n: usize| if random.percent(5) { (n + random.below(3) as usize).saturating_sub(1) } else { n };
-        let (outputs, numbers) = (vec![KEPT; other(list.len())], vec![KEPT; other(list.len())]);
-        let wanted = expected(q, capture, &list, outputs.clone(), numbers.clone());
-        let mut told = Told { words: BatchWords::default(), outputs, numbers };
-        told.words = proved::batch(q, capture, &list, &mut told.outputs, &mut told.numbers);
-        classes.meet(q, &list, &wanted);
-        if told != wanted || told.words.ledger.to_string() != line(&wanted.words.ledger) || !image.kept() {
+        let both = Both::new(&mut random, q, capture, &list);
+        classes.meet(q, &list, &both.wanted);
+        if !both.agree() || !image.kept() {
             differ += 1;
-            let first = told.numbers.iter().zip(&wanted.numbers).zip(told.outputs.iter().zip(&wanted.outputs));
-            let at = first.take_while(|((a, b), (c, d))| a == b && c == d).count();
-            println!("batch of {}: first differs at {at}: {:x?} for {:x?}\n  {q:x?}", list.len(), told.words, wanted.words);
+            both.print(q, &list);
         }
     }
     classes.0.print();

@@ -2,7 +2,7 @@
 use crate::counts::Counts;
 use crate::geometry::{by_granule, is_leaf_level, levels, no_start, no_starts, start_names, Granules, Stage};
 use crate::proved::Words;
-use crate::walk::{bit, bits, is_listed, picks_upper, stage1_on, stage2_on, Capture, Granule, Half, Question, GRANULES, SIZES};
+use crate::walk::{bit, bits, is_listed, picks_upper, stage1_on, stage2_on, Bank, Granule, Half, Question, GRANULES, SIZES};
 
 pub struct Classes(pub Counts);
 
@@ -82,7 +82,7 @@ const NOT_TESTED: &str = "12 not given for a reserved granule code";
 /// One question with its answer, and the addresses of the descriptors read for it.
 pub struct Told<'a> {
     pub q: &'a Question,
-    pub capture: Capture<'a>,
+    pub capture: Bank<'a>,
     pub words: &'a Words,
     pub reads: &'a [u64],
 }

@@ -2,7 +2,7 @@
 //! Purely random registers and memory would nearly always be refused or fault before the first read.
 use crate::random::Random;
 use crate::tables::{passing_leaf_bits, stage1_leaf_bits, stage2_leaf_bits, table_bits, Builder, Image, Part, LARGEST_ROOT, LENGTH};
-use crate::walk::{self, bits, Answer, Capture, Granule, Half, OutputSize, Question, SIZES};
+use crate::walk::{self, bits, Answer, Bank, Capture, Granule, Half, OutputSize, Question, SIZES};
 
 /// The length of an image that is filled.
 const FILLED: u64 = 0x40000;
@@ -329,7 +329,7 @@ fn flip(random: &mut Random, word: &mut u64) {
 /// is taken more often, for it would else seldom be met in a long walk.
 fn read_address(random: &mut Random, image: &Image, q: &Question) -> Option<u64> {
     let mut log = [0; 24];
-    match walk::ask(q, Capture { base: image.base, bytes: &image.bytes }, &mut log) {
+    match walk::ask(q, Capture::Raw(Bank::whole(image.base, &image.bytes)), &mut log) {
         Answer::Translated { reads, .. } | Answer::Stopped { reads, .. } if reads > 0 => {
             Some(if random.percent(30) { log[reads - 1] } else { random.pick(&log[..reads]) })
         }

@@ -6,11 +6,17 @@ mod audit_damage;
 mod audits;
 mod batches;
 mod classes;
+mod core_classes;
+mod core_draft;
+mod core_file;
+mod core_make;
+mod cores;
 mod counts;
 mod generate;
 mod geometry;
 mod proved;
 mod random;
+mod real;
 mod tables;
 mod vectors;
 mod walk;
@@ -21,15 +27,18 @@ use proved::Words;
 use std::process::ExitCode;
 use std::time::{Duration, Instant};
 use vectors::{answer_text, log_text, question_text, Line};
-use walk::{Capture, OutputSize, Question};
+use walk::{Bank, Capture, OutputSize, Question};
 
 const USAGE: &str = "\
 compare vectors FILE..      hold the walk, the audit and the proved functions to the answers of files
+compare dumps LIST FOLDER   hold reader and proved bank list to what LIST says of the core files of FOLDER
+compare guest FOLDER        hold walk, audit and proved functions to a processor's answers, over a guest's core file
 compare random COUNT SEED   compare the proved function with the walk on COUNT random questions, which SEED determines
 compare batches COUNT SEED  compare the proved batch with the walk on COUNT random batches
 compare audits COUNT SEED   compare the proved audit with the independent one on COUNT random audits
-The last line is 'N compared, M differ'. Exit status 0 exactly when M is 0, vectors were read, and no class was missed by
-200,000 random questions, 2,000 random batches or 40,000 random audits or more; 2 for bad arguments.";
+compare cores COUNT SEED    compare the proved calls over core files with the independent ones on COUNT made files
+The last line is 'N compared, M differ'. Exit status 0 exactly when M is 0, N is not, and no class was missed by
+200,000 random questions, 2,000 random batches, 40,000 random audits or 20,000 made files or more; 2 for bad arguments.";
 
 /// From this many random questions on, a class that is missed is an error.
 const ALL_CLASSES: u64 = 200_000;
@@ -39,6 +48,9 @@ const ALL_BATCHES: u64 = 2_000;
 
 /// From this many random audits on, a class that is missed is an error.
 const ALL_AUDITS: u64 = 40_000;
+
+/// From this many made files on, a class that is missed is an error.
+const ALL_CORES: u64 = 20_000;
 
 /// Disagreements printed in full: after a gross error there would be many thousands.
 const PRINTED: u64 = 20;
@@ -137,7 +149,7 @@ fn hold(text: &str) -> bool {
         None => return unread(text),
     };
     let before = line.bytes.clone();
-    let both = Compared::new(&line.question, Capture { base: line.base, bytes: &line.bytes }, line.log_words);
+    let both = Compared::new(&line.question, Capture::Raw(Bank::whole(line.base, &line.bytes)), line.log_words);
     let agrees = |reply: &Reply| line.agrees(&reply.words, reply.reads());
     let why = blamed(agrees(&both.walk), agrees(&both.proved)).or_else(|| both.difference(line.bytes == before));
     if let Some(why) = why {
@@ -152,24 +164,43 @@ fn unread(text: &str) -> bool {
     false
 }
 
-fn hold_vectors(files: &[String]) -> ExitCode {
-    let (mut compared, mut differ) = (0u64, 0u64);
+/// How many answers from outside were compared, and how many of them differ.
+#[derive(Default)]
+struct Tally {
+    compared: u64,
+    differ: u64,
+}
+
+impl Tally {
+    fn count(&mut self, holds: bool) {
+        self.compared += 1;
+        self.differ += !holds as u64;
+    }
+}
+
+fn hold_vectors(files: &[String]) -> Result<Tally, String> {
+    let mut tally = Tally::default();
     for file in files {
-        let text = match std::fs::read_to_string(file) {
-            Ok(text) => text,
-            Err(error) => {
-                eprintln!("compare: {file}: {error}");
-                return ExitCode::from(2);
-            }
-        };
+        let text = std::fs::read_to_string(file).map_err(|error| format!("{file}: {error}"))?;
         for line in text.lines().filter(|line| !line.trim().is_empty() && !line.starts_with('#')) {
-            let holds = if line.starts_with("audit ") { audits::hold(line) } else { hold(line) };
-            compared += 1;
-            differ += !holds as u64;
+            tally.count(if line.starts_with("audit ") { audits::hold(line) } else { hold(line) });
         }
     }
-    println!("{compared} compared, {differ} differ");
-    status(differ == 0 && compared > 0)
+    Ok(tally)
+}
+
+/// Reports a run over answers from outside, or why they could not be read.
+fn held(tally: Result<Tally, String>) -> ExitCode {
+    match tally {
+        Ok(Tally { compared, differ }) => {
+            println!("{compared} compared, {differ} differ");
+            status(differ == 0 && compared > 0)
+        }
+        Err(unread) => {
+            eprintln!("compare: {unread}");
+            ExitCode::from(2)
+        }
+    }
 }
 
 fn status(success: bool) -> ExitCode {
@@ -198,7 +229,7 @@ fn lowering_decides(q: &Question, capture: Capture, log_words: usize, reply: &Re
 
 /// Prints a question on which the two differ as a line of the vectors, with the walk's answer, and then both replies.
 /// Of the capture it has the words that either read: no others can matter to a walk.
-fn print_difference(q: &Question, capture: Capture, log_words: usize, both: &Compared, why: &str) {
+fn print_difference(q: &Question, capture: Bank, log_words: usize, both: &Compared, why: &str) {
     let mut read = [both.walk.reads(), both.proved.reads()].concat();
     read.sort_unstable();
     read.dedup();
@@ -215,16 +246,17 @@ fn compare_random(count: u64, seed: u64) -> ExitCode {
     for compared in 0..count {
         let (image, asked) = questions.next();
         let q = &asked.question;
-        let capture = asked.part.capture(image);
+        let bank = asked.part.bank(image);
+        let capture = Capture::Raw(bank);
         let both = Compared::new(q, capture, asked.log_words);
-        classes.meet(&Told { q, capture, words: &both.walk.words, reads: both.walk.reads() });
+        classes.meet(&Told { q, capture: bank, words: &both.walk.words, reads: both.walk.reads() });
         if lowering_decides(q, capture, asked.log_words, &both.walk) {
             classes.meet_lowered(&both.walk.words);
         }
         if let Some(why) = both.difference(image.kept()) {
             differ += 1;
             if differ <= PRINTED {
-                print_difference(q, asked.part.capture(image), asked.log_words, &both, why);
+                print_difference(q, asked.part.bank(image), asked.log_words, &both, why);
             }
         }
         if reported.elapsed() > Duration::from_secs(10) {
@@ -246,16 +278,24 @@ fn compare_audits(count: u64, seed: u64) -> ExitCode {
     report(count, differ, missed, ALL_AUDITS)
 }
 
+fn compare_cores(count: u64, seed: u64) -> ExitCode {
+    let (differ, missed) = cores::compare(count, seed);
+    report(count, differ, missed, ALL_CORES)
+}
+
 fn main() -> ExitCode {
     let args: Vec<String> = std::env::args().skip(1).collect();
     match args.iter().map(String::as_str).collect::<Vec<_>>().as_slice() {
-        ["vectors", _, ..] => return hold_vectors(&args[1..]),
-        [what @ ("random" | "batches" | "audits"), count, seed] => {
+        ["vectors", _, ..] => return held(hold_vectors(&args[1..])),
+        ["dumps", list, folder] => return held(real::hold_dumps(list, folder)),
+        ["guest", folder] => return held(real::hold_guest(folder)),
+        [what @ ("random" | "batches" | "audits" | "cores"), count, seed] => {
             if let (Ok(count @ 1..), Ok(seed)) = (count.parse(), seed.parse()) {
                 return match *what {
                     "random" => compare_random(count, seed),
                     "batches" => compare_batches(count, seed),
-                    _ => compare_audits(count, seed),
+                    "audits" => compare_audits(count, seed),
+                    _ => compare_cores(count, seed),
                 };
             }
         }

@@ -2,7 +2,7 @@
 use crate::audit::{self, Lists, Verdict};
 use crate::walk::{Answer, Cacheability, Capture, Cause, Memory, Question, Refusal};
 use humpelkaas::calls::{self, Access};
-pub use humpelkaas::calls::{AuditWords, BatchWords, Words};
+pub use humpelkaas::calls::{banks, AuditWords, BanksWords, BatchWords, Words};
 use humpelkaas::{El1, El2};
 
 fn el2(q: &Question) -> El2 {
@@ -18,7 +18,10 @@ fn access(q: &Question) -> Access {
 }
 
 fn of(capture: Capture) -> humpelkaas::Capture {
-    humpelkaas::Capture { base: capture.base, bytes: capture.bytes }
+    match capture {
+        Capture::Raw(bank) => humpelkaas::Capture::Raw { base: bank.base, bytes: bank.bytes },
+        Capture::Core { file, .. } => humpelkaas::Capture::Core { file },
+    }
 }
 
 /// The comparison sees a write past the log, or into the capture.
@@ -76,6 +79,7 @@ impl From<Answer> for Words {
                 let (stage, onwalk, ipa) = (place.stage, place.on_walk as u64, if number <= 5 { place.ipa } else { 0 });
                 Words { number, address, level, stage, onwalk, ipa, reads: reads as u64, ..none }
             }
+            Answer::Refused(Refusal::CoreFile) => Words { number: 17, ..none },
             Answer::Refused(Refusal::ShortLog) => Words { number: 10, ..none },
             Answer::Refused(Refusal::HighCapture) => Words { number: 11, ..none },
             Answer::Refused(Refusal::Settings(item)) => Words { number: 12, item, ..none },
@@ -91,6 +95,7 @@ impl From<&Verdict> for AuditWords {
         match verdict {
             Verdict::Clean => none,
             Verdict::Found(finding) => AuditWords { number: finding.number, address: finding.address, ..none },
+            Verdict::Refused(audit::Refusal::CoreFile) => AuditWords { number: 17, ..none },
             Verdict::Refused(audit::Refusal::HighCapture) => AuditWords { number: 11, ..none },
             Verdict::Refused(audit::Refusal::Settings(item)) => AuditWords { number: 12, item: *item, ..none },
             Verdict::Refused(audit::Refusal::Lists) => AuditWords { number: 15, ..none },

@@ -1,7 +1,7 @@
 //! The memory that captures are taken from, and translation tables built in it, so that walks have descriptors to read.
 use crate::generate::built_for;
 use crate::random::Random;
-use crate::walk::{bits, Capture, Granule, Question};
+use crate::walk::{bits, Bank, Granule, Question};
 use std::ops::Range;
 
 /// The largest root: 16 tables of 64KB. Images begin at a multiple of it.
@@ -104,8 +104,9 @@ impl Part {
         Part { range: 0..image.bytes.len(), base: image.base }
     }
 
-    pub fn capture<'a>(&self, image: &'a Image) -> Capture<'a> {
-        Capture { base: self.base, bytes: &image.bytes[self.range.clone()] }
+    /// The one bank of the raw capture.
+    pub fn bank<'a>(&self, image: &'a Image) -> Bank<'a> {
+        Bank::whole(self.base, &image.bytes[self.range.clone()])
     }
 
     /// Cuts at an offset of the image, from either end.

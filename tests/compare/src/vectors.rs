@@ -2,7 +2,7 @@
 //! Lines from an emulator, which have neither capture bounds nor a log and tell less of an answer, are read too.
 use crate::audit::Lists;
 use crate::proved::{AuditWords, Words};
-use crate::walk::{Capture, Question, FETCH};
+use crate::walk::{Bank, Question, FETCH};
 
 /// A line's question, its capture, and what it says of the answer.
 pub struct Line {
@@ -122,7 +122,7 @@ fn emulator_text(w: &Words, kind: u64) -> String {
 }
 
 /// A question as a line of the vectors. The capture is written with the words at the given addresses only.
-pub fn question_text(q: &Question, capture: Capture, log_words: usize, addresses: &[u64]) -> String {
+pub fn question_text(q: &Question, capture: Bank, log_words: usize, addresses: &[u64]) -> String {
     let numbers = format!("{} {} {} {}", q.pamax, q.kind, q.el, q.size);
     let registers = [q.sctlr_el1, q.tcr_el1, q.ttbr0_el1, q.ttbr1_el1, q.mair_el1, q.hcr_el2, q.vtcr_el2, q.vttbr_el2, q.sctlr_el2];
     let words = addresses.iter().filter_map(|&address| Some(format!(" {address:x}={:x}", capture.descriptor(address)?)));
@@ -189,7 +189,7 @@ pub fn audit_answer_text(w: &AuditWords) -> String {
 }
 
 /// An audit as a line of the vectors, with all words of its capture that are not zero.
-pub fn audit_text(q: &Question, capture: Capture, lists: &Lists) -> String {
+pub fn audit_text(q: &Question, capture: Bank, lists: &Lists) -> String {
     let registers = log_text(&[q.hcr_el2, q.vtcr_el2, q.vttbr_el2, q.sctlr_el2]);
     let offsets = (0..capture.bytes.len() as u64).skip(capture.base.wrapping_neg() as usize % 8).step_by(8);
     let words = offsets.filter_map(|offset| {

@@ -1,5 +1,5 @@
-//! An independent walk: one question answered by document 01, with the output size and the granules of document 02, §2 and §3, in plain
-//! Rust, written without regard to the proved code.
+//! An independent walk: one question answered by document 01, with the banks, the output size and the granules of document 02, §1 to §3,
+//! in plain Rust, written without regard to the proved code.
 //! Comments in quotation marks name the heading of document 01 that a rule is from.
 
 pub const READ: u64 = 0;
@@ -25,14 +25,23 @@ pub struct Question {
     pub size: u64,
 }
 
-/// Bytes of memory, and the physical address of the first.
+/// A run of captured memory.
 #[derive(Clone, Copy)]
-pub struct Capture<'a> {
+pub struct Bank<'a> {
+    /// The physical address of the first byte.
     pub base: u64,
+    /// The bytes that are there.
     pub bytes: &'a [u8],
+    /// How many there should be: more than are there, if a core file was cut.
+    pub size: u64,
 }
 
-impl Capture<'_> {
+impl<'a> Bank<'a> {
+    /// All of it is there.
+    pub fn whole(base: u64, bytes: &'a [u8]) -> Bank<'a> {
+        Bank { base, bytes, size: bytes.len() as u64 }
+    }
+
     /// The descriptor at an address, if all its eight bytes are here.
     pub fn descriptor(&self, address: u64) -> Option<u64> {
         let offset = address.checked_sub(self.base)? as usize;
@@ -42,7 +51,40 @@ impl Capture<'_> {
 
     /// Whether it is refused by answer 11. The sum is of unbounded numbers.
     pub fn is_high(&self) -> bool {
-        u128::from(self.base) + self.bytes.len() as u128 > 1 << 48
+        u128::from(self.base) + u128::from(self.size) > 1 << 48
+    }
+}
+
+/// Captured memory.
+#[derive(Clone, Copy)]
+pub enum Capture<'a> {
+    /// A run of bytes is one bank.
+    Raw(Bank<'a>),
+    /// A core file has banks, unless it is refused by answer 17 (document 02, §1).
+    Core { file: &'a [u8], banks: Option<&'a [Bank<'a>]> },
+}
+
+impl<'a> Capture<'a> {
+    pub fn banks(&self) -> Option<&[Bank<'a>]> {
+        match self {
+            Capture::Raw(bank) => Some(std::slice::from_ref(bank)),
+            Capture::Core { banks, .. } => *banks,
+        }
+    }
+
+    /// The descriptor at an address, if all its eight bytes are in one bank.
+    pub fn descriptor(&self, address: u64) -> Option<u64> {
+        self.banks()?.iter().find_map(|bank| bank.descriptor(address))
+    }
+
+    /// Whether it is refused by answer 17.
+    pub fn is_no_core(&self) -> bool {
+        self.banks().is_none()
+    }
+
+    /// Whether it is refused by answer 11: one bank that is high is enough.
+    pub fn is_high(&self) -> bool {
+        self.banks().map_or(false, |banks| banks.iter().any(Bank::is_high))
     }
 }
 
@@ -110,8 +152,9 @@ pub struct Stop {
     pub level: u64,
 }
 
-/// Answers 10 to 13.
+/// Answers 17 and 10 to 13.
 pub enum Refusal {
+    CoreFile,
     ShortLog,
     HighCapture,
     Settings(u64),
@@ -343,8 +386,11 @@ pub fn failing_item(q: &Question) -> Option<u64> {
     holds.iter().position(|held| !held).map(|at| at as u64 + 1)
 }
 
-/// "Answer numbers": 10 to 13, in that order.
+/// "Answer numbers": 10 to 13, in that order, and 17 before them.
 fn refusal(q: &Question, capture: Capture, log_words: usize) -> Option<Refusal> {
+    if capture.is_no_core() {
+        return Some(Refusal::CoreFile);
+    }
     if log_words < 24 {
         return Some(Refusal::ShortLog);
     }

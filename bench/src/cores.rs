@@ -1,0 +1,165 @@
+//! The hot workloads once more, over core files of the same bytes: with one bank, and with a bank for each page.
+use crate::batch::Batch;
+use crate::memory::{Banks, Core, ELF_HEADER, MOST_BANKS, PROGRAM_HEADER};
+use crate::one_by_one::one_by_one;
+use crate::proved::{self, BatchWords, Question, Words};
+use crate::question::ask_core;
+use crate::random::Random;
+use crate::straight::LOG;
+use crate::timing::{interleaved, nanoseconds};
+use crate::workloads::{Workload, BATCH, BATCHES};
+
+/// Questions of a round. Each reads the headers anew, so that a whole batch of them would take long.
+pub const QUESTIONS: usize = BATCH / 8;
+
+/// A bank for each page of a hot workload, or all of it in one.
+pub const COUNTS: [usize; 2] = [1, MOST_BANKS];
+
+/// A core file of a workload's capture, cut into so many banks of one size. In the file they are in random order.
+pub fn build(workload: &Workload, count: usize, seed: u64) -> Vec<u8> {
+    let capture = workload.capture();
+    let mut random = Random::new(seed);
+    let mut places: Vec<usize> = (0..count).collect();
+    for i in (1..count).rev() {
+        places.swap(i, random.below(i as u64 + 1) as usize);
+    }
+    let (size, first) = (capture.bytes.len() / count, ELF_HEADER + count * PROGRAM_HEADER);
+    let mut file = vec![0; first + capture.bytes.len()];
+    file[..6].copy_from_slice(b"\x7fELF\x02\x01");
+    for (at, number) in [(16, 4), (18, 183), (32, ELF_HEADER), (54, PROGRAM_HEADER), (56, count)] {
+        file[at..at + 2].copy_from_slice(&(number as u16).to_le_bytes());
+    }
+    for (n, place) in places.into_iter().enumerate() {
+        let (header, offset) = (ELF_HEADER + n * PROGRAM_HEADER, first + place * size);
+        file[header] = 1;
+        for (at, number) in [(8, offset as u64), (24, capture.base + (n * size) as u64), (32, size as u64)] {
+            file[header + at..header + at + 8].copy_from_slice(&number.to_le_bytes());
+        }
+        file[offset..offset + size].copy_from_slice(&capture.bytes[n * size..(n + 1) * size]);
+    }
+    file
+}
+
+/// The Rust batch over a core file. Reading the headers is part of it.
+fn rust_batch<const HALVING: bool>(q: &Question, file: &[u8], addresses: &[u64], outputs: &mut [u64], numbers: &mut [u64]) {
+    let core = Core::read(file).expect("the file is accepted");
+    Batch::new(q, Banks::<HALVING>(&core.banks)).run(addresses, outputs, numbers, &mut [0; LOG]);
+}
+
+fn done(words: BatchWords) {
+    assert_eq!(words.number, 0, "the batch is accepted");
+}
+
+/// Both lists as a batch fills them.
+fn filled(run: impl FnOnce(&mut [u64], &mut [u64])) -> (Vec<u64>, Vec<u64>) {
+    // Filled with what no answer holds, so that an entry that is not written is seen.
+    let (mut outputs, mut numbers) = (vec![u64::MAX; BATCH], vec![u64::MAX; BATCH]);
+    run(&mut outputs, &mut numbers);
+    (outputs, numbers)
+}
+
+/// An answer with its log.
+fn asked(ask: impl FnOnce(&mut [u64]) -> Words) -> (Words, Vec<u64>) {
+    let mut log = vec![u64::MAX; LOG];
+    (ask(&mut log), log)
+}
+
+/// All must say of the core file what the proved ones say of the raw capture.
+pub fn agree(workload: &Workload, file: &[u8]) -> Result<(), String> {
+    let (q, capture) = (&workload.question, workload.capture());
+    for addresses in &workload.batches {
+        let raw = filled(|outputs, numbers| done(proved::batch(q, capture, addresses, outputs, numbers)));
+        let core = filled(|outputs, numbers| done(proved::batch_core(q, file, addresses, outputs, numbers)));
+        let scan = filled(|outputs, numbers| rust_batch::<false>(q, file, addresses, outputs, numbers));
+        let halving = filled(|outputs, numbers| rust_batch::<true>(q, file, addresses, outputs, numbers));
+        if [core, scan, halving].iter().any(|told| *told != raw) {
+            return Err("batches over the core file and over the raw capture differ".to_string());
+        }
+        for &address in addresses.iter().step_by(15) {
+            let raw = asked(|log| proved::ask(q, capture, address, log));
+            let core = asked(|log| proved::ask_core(q, file, address, log));
+            let scan = asked(|log| ask_core::<false>(q, file, address, log));
+            let halving = asked(|log| ask_core::<true>(q, file, address, log));
+            if [&core, &scan, &halving].iter().any(|told| **told != raw) {
+                return Err(format!("{address:#x}: raw {raw:x?}, core {core:x?}, Rust {scan:x?} and {halving:x?}"));
+            }
+        }
+    }
+    refusals_agree(q, file)
+}
+
+/// The file with one thing wrong, or nearly: both must refuse the same.
+fn refusals_agree(q: &Question, file: &[u8]) -> Result<(), String> {
+    let changed = |at: usize, bytes: &[u8]| {
+        let mut file = file.to_vec();
+        file[at..at + bytes.len()].copy_from_slice(bytes);
+        file
+    };
+    let last = file.len() as u64 - 1;
+    let cases = [
+        file[..ELF_HEADER - 1].to_vec(),
+        file[..ELF_HEADER + PROGRAM_HEADER - 1].to_vec(),
+        file[..file.len() - 1].to_vec(),
+        changed(0, &[0]),
+        changed(16, &[3]),
+        changed(18, &[62]),
+        changed(54, &[57]),
+        changed(56, &[0, 0]),
+        changed(56, &[255, 255]),
+        changed(32, &[255; 8]),
+        changed(ELF_HEADER, &[4]),
+        changed(ELF_HEADER + 8, &63u64.to_le_bytes()),
+        changed(ELF_HEADER + 8, &last.to_le_bytes()),
+        changed(ELF_HEADER + 8, &[255; 8]),
+        changed(ELF_HEADER + 24, &(1u64 << 48).to_le_bytes()),
+        changed(ELF_HEADER + 24, &[255; 8]),
+        changed(ELF_HEADER + 32, &[255; 8]),
+    ];
+    for (n, file) in cases.iter().enumerate() {
+        let proved = asked(|log| proved::ask_core(q, file, 0, log));
+        let (scan, halving) = (asked(|log| ask_core::<false>(q, file, 0, log)), asked(|log| ask_core::<true>(q, file, 0, log)));
+        if proved != scan || proved != halving {
+            return Err(format!("changed file {n}: proved {proved:x?}, Rust {scan:x?} and {halving:x?}"));
+        }
+    }
+    Ok(())
+}
+
+/// The median times, in nanoseconds an address: each of the raw capture by the proved call, and of the core file by the proved call, by
+/// Rust that scans the banks and by Rust that halves them.
+pub struct Medians {
+    pub raw: f64,
+    pub core: f64,
+    pub scan: f64,
+    pub halving: f64,
+}
+
+impl Medians {
+    fn of(times: &[f64], addresses: usize) -> Medians {
+        let each = |n: usize| times[n] / addresses as f64;
+        Medians { raw: each(0), core: each(1), scan: each(2), halving: each(3) }
+    }
+}
+
+const WAYS: usize = 8;
+
+/// Of batches, and of questions. In each round all eight take a batch, each another one, in turning order.
+pub fn measure(workload: &Workload, file: &[u8], rounds: usize) -> (Medians, Medians) {
+    let (q, capture) = (&workload.question, workload.capture());
+    let (mut outputs, mut numbers, mut log) = (vec![0; BATCH], vec![0; BATCH], [0; LOG]);
+    let times = interleaved::<WAYS>(BATCHES, rounds, |way, round| {
+        let addresses = &workload.batches[(round + way * BATCHES / WAYS) % BATCHES];
+        let few = &addresses[..QUESTIONS];
+        nanoseconds(|| match way {
+            0 => done(proved::batch(q, capture, addresses, &mut outputs, &mut numbers)),
+            1 => done(proved::batch_core(q, file, addresses, &mut outputs, &mut numbers)),
+            2 => rust_batch::<false>(q, file, addresses, &mut outputs, &mut numbers),
+            3 => rust_batch::<true>(q, file, addresses, &mut outputs, &mut numbers),
+            4 => one_by_one(|at, log| proved::ask(q, capture, at, log), few, &mut outputs, &mut numbers, &mut log),
+            5 => one_by_one(|at, log| proved::ask_core(q, file, at, log), few, &mut outputs, &mut numbers, &mut log),
+            6 => one_by_one(|at, log| ask_core::<false>(q, file, at, log), few, &mut outputs, &mut numbers, &mut log),
+            _ => one_by_one(|at, log| ask_core::<true>(q, file, at, log), few, &mut outputs, &mut numbers, &mut log),
+        })
+    });
+    (Medians::of(&times[..4], BATCH), Medians::of(&times[4..], QUESTIONS))
+}
