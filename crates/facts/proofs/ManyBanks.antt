@@ -9,8 +9,8 @@ use lib.ListN.{length, take, replicate, length-append}
 use lib.Seq.{drop-append-seam, drop-append-add}
 use Rattle.bits.specs.Bits.{pick}
 use Rattle.capture.specs.Capture.{Bank, little}
-use Rattle.layout.specs.Elf.{number, headed, headersAt, headersEnd, banksFrom, banks, mostBanks, wellLaid, isCore}
-use Rattle.facts.specs.CoreFiles.{bytes, bank, load, loads, made, elf, making}
+use Rattle.layout.specs.Elf.{number, headed, isBank, headersAt, headersEnd, banksFrom, banks, mostBanks, wellLaid, isCore}
+use Rattle.facts.specs.CoreFiles.{bytes, bank, load, loads, made, elf, making, changed}
 
 -- a bank of size 0
 abbrev pub nothing : Bank
@@ -32,7 +32,8 @@ step pre l n =
     let field : (k : ℕ) → number 8 (length pre + k) (pre ++ h) ≡ number 8 k h = λ k. ap (λ z. little (take 8 z)) (drop-append-add pre h k) in
     let f = pre ++ h in
     let at = length pre in
-    by-fields (number 4 at f) (number 8 (at + 24) f) (number 8 (at + 8) f) (number 8 (at + 32) f) (banksFrom n (at + 56) f) (ap (λ z. little (take 4 z)) (drop-append-seam pre h)) (field 24) (field 8) (field 32)
+    by-fields (number 4 at f) (number 8 (at + 24) f) (number 8 (at + 8) f) (number 8 (at + 32) f) (banksFrom n (at + 56) f)
+    (ap (λ z. little (take 4 z)) (drop-append-seam pre h)) (field 24) (field 8) (field 32)
 
 all-banks : (n : ℕ) (pre rest : List ℕ) → banksFrom n (length pre) (pre ++ (loads (replicate n nothing) ++ rest)) ≡ replicate n nothing
 unfolding banksFrom loads load bytes
@@ -65,11 +66,36 @@ length-65 : length (many 65) ≡ 3704
 unfolding making
 length-65 = refl
 
--- 02, §1: at most 64 banks; those of size 0 count
+-- 02, §1: 64 banks; those of size 0 count
 pub core-64 : isCore (many 64) ≡ true
 unfolding making
 core-64 = accepted-by (many 64) (replicate 64 nothing) 3648 banks-64 length-64 ∙ refl
 
+-- 02, §1: one more
 pub core-65 : isCore (many 65) ≡ false
 unfolding making
 core-65 = accepted-by (many 65) (replicate 65 nothing) 3704 banks-65 length-65 ∙ refl
+
+-- of 65 headers the first is of type 4
+abbrev pub first : List ℕ
+first = elf 64 65 ++ changed 0 4 4 (load nothing)
+
+abbrev pub besides : List ℕ
+besides = first ++ (loads (replicate 64 nothing) ++ [])
+
+skip : (n at : ℕ) (file : List ℕ) → isBank at file ≡ false → banksFrom (suc n) at file ≡ banksFrom n (at + 56) file
+unfolding banksFrom pick
+skip n at file e = rw e
+
+banks-besides : banks besides ≡ replicate 64 nothing
+unfolding elf bytes load loads little
+banks-besides = skip 64 64 besides refl ∙ all-banks 64 first []
+
+length-besides : length besides ≡ 3704
+unfolding making
+length-besides = refl
+
+-- 02, §1: banks count, not headers
+pub core-besides : isCore besides ≡ true
+unfolding making
+core-besides = accepted-by besides (replicate 64 nothing) 3704 banks-besides length-besides ∙ refl
