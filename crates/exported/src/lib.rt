@@ -468,7 +468,13 @@ pub extern "C" fn humpelkaas_core_banks(
     offsets: &mut [u64],
     lengths: &mut [u64],
     shorts: &mut [u64],
-) -> BanksWords {
+) -> BanksWords
+    ensures answered { λ w. ⌜ w ≡ Numbers.banksWords (bankList (now (file .entry)) (now (addresses .entry)) (now (offsets .entry)) (now (lengths .entry)) (now (shorts .entry)) .answer) ⌝ }
+    ensures placed { λ w. ⌜ now (addresses .exit) ≡ bankList (now (file .entry)) (now (addresses .entry)) (now (offsets .entry)) (now (lengths .entry)) (now (shorts .entry)) .addresses ⌝ }
+    ensures standing { λ w. ⌜ now (offsets .exit) ≡ bankList (now (file .entry)) (now (addresses .entry)) (now (offsets .entry)) (now (lengths .entry)) (now (shorts .entry)) .offsets ⌝ }
+    ensures keeping { λ w. ⌜ now (lengths .exit) ≡ bankList (now (file .entry)) (now (addresses .entry)) (now (offsets .entry)) (now (lengths .entry)) (now (shorts .entry)) .lengths ⌝ }
+    ensures marked { λ w. ⌜ now (shorts .exit) ≡ bankList (now (file .entry)) (now (addresses .entry)) (now (offsets .entry)) (now (lengths .entry)) (now (shorts .entry)) .shorts ⌝ }
+{
     banks_in_words(banks::list(file, addresses, offsets, lengths, shorts))
 }
 
