@@ -93,10 +93,11 @@ pub fn descriptor_type(g: Geometry, n: u64, x: u64) -> DescriptorType
     }
 }
 
-// Where a leaf puts an input, t being its shift: the leaf's bits 47 down to t, then the input's below t.
+// Where a leaf puts an input, t being its shift: the leaf's bits 47 down to t, then the input's below t. Both by masks, which are ready
+// before the leaf is: shifts of the leaf itself would stand between it and the next descriptor.
 pub fn output_address(x: u64, t: u64, input: u64) -> u64
     requires { ⌜ t < 48 ⌝ }
     ensures { λ r. ⌜ r ≡ Entries.outputAddress x t input ⌝ }
 {
-    (x % 0x1_0000_0000_0000 >> t << t) + input % (1 << t)
+    (x & (0x1_0000_0000_0000 - (1 << t))) + (input & ((1 << t) - 1))
 }

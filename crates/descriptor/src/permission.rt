@@ -73,7 +73,7 @@ pub fn stage1_permits(wxn: bool, a: Access, h: Inherited, x: u64) -> bool
 fn as_read(onwalk: bool, a: Access) -> bool
     ensures { λ r. ⌜ r ≡ onwalk || isRead a ⌝ }
 {
-    onwalk | is_read(a)
+    if onwalk { true } else { is_read(a) }
 }
 
 // A fetch is a read of what XN does not shut.

@@ -9,4 +9,5 @@ as-read-spec =
     tie.close
     (tie.spec
     (λ c κs. search needs)
-    (λ c. simp (c .is-read .ensures)))
+    (λ c. search needs)
+    (λ c. simp (c .is-read .ensures, c .before .if1 .left)))
