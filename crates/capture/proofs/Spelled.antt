@@ -10,7 +10,7 @@ use lib.Seq.{drop-cons}
 use Rattle.capture.specs.Capture.{little}
 
 -- the bytes from i + k on: the first, and then the others
-next : (n i k : ℕ) (l : List ℕ) → i + k < length l → little (take (suc n) (drop (i + k) l)) ≡ getD l (i + k) 0 + 256 * little (take n (drop (i + suc k) l))
+pub next : (n i k : ℕ) (l : List ℕ) → i + k < length l → little (take (suc n) (drop (i + k) l)) ≡ getD l (i + k) 0 + 256 * little (take n (drop (i + suc k) l))
 unfolding little
 next n i k l h = let e : suc (i + k) ≡ i + suc k = omega arith in rw (drop-cons l (i + k) 0 h, e)
 

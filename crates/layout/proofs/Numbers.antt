@@ -2,18 +2,13 @@
 -- Assumes nothing.
 use mathlib.Core.Path.{_≡_}
 use mathlib.Core.List.{List}
-use Prim.Native.Nat.{ℕ, suc, _+_, _*_, _≤_, _<_}
+use Prim.Native.Nat.{ℕ, _+_, _*_, _≤_}
 use native.Mathlib.Nat.{add-zero}
 use native.Mathlib.Omega.{arith}
 use lib.ListN.{length, getD}
-use lib.Seq.{drop-cons}
 use Rattle.capture.specs.Capture.{little}
+use Rattle.capture.proofs.Spelled.{next}
 use Rattle.layout.specs.Elf.{number}
-
--- the bytes from i + k on: the first, and then the others
-next : (n i k : ℕ) (l : List ℕ) → i + k < length l → number (suc n) (i + k) l ≡ getD l (i + k) 0 + 256 * number n (i + suc k) l
-unfolding little
-next n i k l h = let e : suc (i + k) ≡ i + suc k = omega arith in rw (drop-cons l (i + k) 0 h, e)
 
 module _ (i : ℕ) (l : List ℕ) where
   pub one-byte : i + 1 ≤ length l → getD l i 0 ≡ number 1 i l
