@@ -7,3 +7,4 @@ pub mod Granules
 pub mod GranuleRoots
 pub mod GranuleAudits
 pub mod CoreFiles
+pub mod BankLists
