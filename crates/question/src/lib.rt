@@ -7,64 +7,69 @@ use capture::Part;
 use registers::El1;
 use registers::El2;
 use stages::both;
+use stages::both::Arrival;
 ghost use mathlib.Core.Path.{_≡_};
-ghost use mathlib.Core.Bool.{false};
+ghost use mathlib.Core.Bool.{true};
 ghost use mathlib.Core.List.{List};
-ghost use Prim.Native.Nat.{ℕ};
+ghost use Prim.Native.Nat.{ℕ, _≤_};
+ghost use lib.ListN.{length};
+ghost use Rattle.reads.specs.Ran.{Ran};
+ghost use Rattle.access.specs.Access.{listedSize};
 ghost use Rattle.capture.specs.Calls.{captured, Held};
 ghost use Rattle.layout.specs.Layout.{raw, core};
-ghost use Rattle.answers.specs.Question.{askOver, ask, Tells};
+ghost use Rattle.stages.specs.Stages.{access};
+ghost use Rattle.stages.specs.Calls.{arrived};
+ghost use Rattle.settings.specs.Settings.{settings};
+ghost use Rattle.regime.specs.Roots.{stage1, stage2};
+ghost use Rattle.answers.specs.Answers as Answers;
+ghost use Rattle.answers.specs.Question.{ask, Tells};
 ghost use Rattle.answers.specs.Counts.{Counts};
 ghost use Rattle.answers.specs.Framing.{Framing};
 
 // The words that a log must have.
 pub const LOG_WORDS: usize = 24;
 
-// Where an access by the guest lands, by parts of a file. The physical address of each descriptor read goes into the log, in order; every
-// other word of it is kept.
-fn over(
+// The answer to an access, by how it ended. Attributes go by the registers.
+fn answer_of(r: El2, g: El1, a: Access, last: Arrival) -> Answer
+    ensures { λ answer. ⌜ answer ≡ Answers.answer (last .end .count) (arrived (stage1 r g) (stage2 r) a last) ⌝ }
+{
+    let end = last.end;
+    let reads = end.count as u64;
+    let reached = both::reached_by(regime::memory(r, g), a, last);
+    answers::answered(reached, reads)
+}
+
+// Where an access by the guest lands, by parts of a file, as a list of one address. The physical address of each descriptor read goes into
+// the log, in order; every other word of it is kept.
+fn arrival(
     file: &[u8],
     front: Part,
     parts: &[u64],
-    high: bool,
     r: El2,
     g: El1,
     a: Access,
     log: &mut [u64],
-) -> Answer
-    requires { ⌜ (high ≡ false → Held front (now parts) (now file)) ⌝ }
-    ensures { λ answer. ⌜ Tells (askOver (captured front (now (parts .entry)) (now (file .entry))) false high r g a (now (log .entry))) answer (now (log .exit)) ⌝ }
+) -> Arrival
+    requires { ⌜ (settings r g ≡ 0) × (listedSize (a .size) ≡ true) × Held front (now parts) (now file) × (24 ≤ length (now log)) ⌝ }
+    ensures { λ last. ⌜ Ran (captured front (now (parts .entry)) (now (file .entry))) (access (stage1 r g) (stage2 r) a) (now (log .entry)) 0 (arrived (stage1 r g) (stage2 r) a last) (last .end .count) (now (log .exit)) ⌝ }
 {
-    if log.len() < LOG_WORDS {
-        return Answer::Refused(Refusal::ShortLog);
-    }
-    let verdict = answers::shared_verdict(high, r, g, a.kind, a.el, a.size);
-    match verdict {
-        Verdict::Refused(why) => Answer::Refused(why),
-        Verdict::Accepted => {
-            let addresses = [a.address; 1];
-            let mut outputs = [0u64; 1];
-            let mut numbers = [0u64; 1];
-            let last = accesses::each(
-                file,
-                front,
-                parts,
-                r,
-                g,
-                a.kind,
-                a.el,
-                a.size,
-                &addresses,
-                &mut outputs,
-                &mut numbers,
-                log,
-            );
-            let end = last.end;
-            let reads = end.count as u64;
-            let reached = both::reached_by(regime::memory(r, g), a, last);
-            answers::answered(reached, reads)
-        }
-    }
+    let addresses = [a.address; 1];
+    let mut outputs = [0u64; 1];
+    let mut numbers = [0u64; 1];
+    accesses::each(
+        file,
+        front,
+        parts,
+        r,
+        g,
+        a.kind,
+        a.el,
+        a.size,
+        &addresses,
+        &mut outputs,
+        &mut numbers,
+        log,
+    )
 }
 
 // The question over a raw capture, of which the first byte lies at base.
@@ -73,10 +78,17 @@ pub fn translate(bytes: &[u8], base: u64, r: El2, g: El1, a: Access, log: &mut [
     ensures counted { λ answer. ⌜ Counts (raw base) (now (bytes .entry)) r g a (now (log .entry)) ⌝ }
     ensures framed { λ answer. ⌜ ((other : List ℕ) → Framing (raw base) (now (bytes .entry)) other r g a (now (log .entry))) ⌝ }
 {
+    if log.len() < LOG_WORDS {
+        return Answer::Refused(Refusal::ShortLog);
+    }
     let whole = capture::whole(base, bytes.len());
     let high = capture::ends_high(base, bytes.len() as u64);
     let none = [0u64; 1];
-    over(bytes, whole, &none[0..0], high, r, g, a, log)
+    let verdict = answers::shared_verdict(high, r, g, a.kind, a.el, a.size);
+    match verdict {
+        Verdict::Refused(why) => Answer::Refused(why),
+        Verdict::Accepted => answer_of(r, g, a, arrival(bytes, whole, &none[0..0], r, g, a, log)),
+    }
 }
 
 // The question over a core file.
@@ -90,7 +102,14 @@ pub fn translate_core(file: &[u8], r: El2, g: El1, a: Access, log: &mut [u64]) -
     if !laid.readable {
         return Answer::Refused(Refusal::CoreFile);
     }
+    if log.len() < LOG_WORDS {
+        return Answer::Refused(Refusal::ShortLog);
+    }
     let end = 3 * laid.count;
     let front = laid.front;
-    over(file, front, &words[0..end], laid.high, r, g, a, log)
+    let verdict = answers::shared_verdict(laid.high, r, g, a.kind, a.el, a.size);
+    match verdict {
+        Verdict::Refused(why) => Answer::Refused(why),
+        Verdict::Accepted => answer_of(r, g, a, arrival(file, front, &words[0..end], r, g, a, log)),
+    }
 }
