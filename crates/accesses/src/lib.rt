@@ -1,7 +1,7 @@
 // The access to each address of a list, with one kind, EL and size. Registers are decoded and stages prepared once.
 // The question and the batch both come here: so the access has one caller, and all of it becomes one loop when it is compiled.
 use access::Access;
-use capture::Part;
+use capture::Front;
 use registers::El1;
 use registers::El2;
 use stages::both;
@@ -46,7 +46,7 @@ fn wanted(addresses: &[u64], upper: bool) -> bool
 // Answers each address: the number of its answer, and its output. Gives how the last access ended.
 pub fn each(
     file: &[u8],
-    front: Part,
+    front: Front,
     parts: &[u64],
     r: El2,
     g: El1,

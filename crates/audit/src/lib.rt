@@ -1,6 +1,6 @@
 // The audit of stage 2's tables against the granted frames (01, The audit).
 use answers::Refusal;
-use capture::Part;
+use capture::Front;
 use registers::El2;
 use walk::end;
 ghost use mathlib.Core.Path.{_≡_};
@@ -63,7 +63,7 @@ pub fn number(a: AuditAnswer) -> u64
 // pairs of an address and a byte count, tables of an address and a level.
 fn over(
     file: &[u8],
-    front: Part,
+    front: Front,
     parts: &[u64],
     high: bool,
     r: El2,

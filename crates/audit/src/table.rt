@@ -2,7 +2,7 @@
 use crate::AuditAnswer;
 use crate::Finding;
 use crate::FindingKind;
-use capture::Part;
+use capture::Front;
 use descriptor::entry;
 use descriptor::entry::DescriptorType;
 use descriptor::entry::Geometry;
@@ -82,7 +82,7 @@ fn examine(
 // What lies at an entry's address says; an absent descriptor nothing.
 fn entry_says(
     file: &[u8],
-    front: Part,
+    front: Front,
     parts: &[u64],
     grants: &[u64],
     counts: &[u64],
@@ -104,7 +104,7 @@ fn entry_says(
 // The first finding among the entries of a table, ascending.
 fn entries_say(
     file: &[u8],
-    front: Part,
+    front: Front,
     parts: &[u64],
     grants: &[u64],
     counts: &[u64],
@@ -132,7 +132,7 @@ fn entries_say(
 }
 
 // Whether an entry is in the capture.
-fn entry_lies(file: &[u8], front: Part, parts: &[u64], table: u64, at: u64) -> AuditAnswer
+fn entry_lies(file: &[u8], front: Front, parts: &[u64], table: u64, at: u64) -> AuditAnswer
     requires { ⌜ Held front (now parts) (now file) ⌝ }
     ensures { λ r. ⌜ r ≡ Calls.entryLies (captured front (now (parts .entry)) (now (file .entry))) table at ⌝ }
 {
@@ -143,7 +143,7 @@ fn entry_lies(file: &[u8], front: Part, parts: &[u64], table: u64, at: u64) -> A
 }
 
 // Whether all entries of a table are.
-fn entries_lie(file: &[u8], front: Part, parts: &[u64], entries: u64, table: u64) -> AuditAnswer
+fn entries_lie(file: &[u8], front: Front, parts: &[u64], entries: u64, table: u64) -> AuditAnswer
     requires { ⌜ Held front (now parts) (now file) × (table + 8 * entries < 2 ^ 64) ⌝ }
     ensures { λ r. ⌜ r ≡ Audits.eachEntry (Calls.entryLies (captured front (now (parts .entry)) (now (file .entry))) table) entries table ⌝ }
 {
@@ -170,7 +170,7 @@ fn two_to(j: u64) -> u64
 // A table of 2 to the j entries with n levels below them: finding 1, then 2, then the entries'.
 fn one_table(
     file: &[u8],
-    front: Part,
+    front: Front,
     parts: &[u64],
     grants: &[u64],
     counts: &[u64],
@@ -210,7 +210,7 @@ fn one_table(
 // Each listed table, with all of the granule's entries.
 fn listed_tables(
     file: &[u8],
-    front: Part,
+    front: Front,
     parts: &[u64],
     grants: &[u64],
     counts: &[u64],
@@ -249,7 +249,7 @@ fn listed_tables(
 // The root with all its entries, and then each listed table.
 pub(crate) fn from_root(
     file: &[u8],
-    front: Part,
+    front: Front,
     parts: &[u64],
     grants: &[u64],
     counts: &[u64],

@@ -2,7 +2,7 @@
 
 use answers::Refusal;
 use answers::Verdict;
-use capture::Part;
+use capture::Front;
 use ledger::Ledger;
 use registers::El1;
 use registers::El2;
@@ -42,7 +42,7 @@ fn unequal(asked: usize, outputs: usize, numbers: usize) -> bool
 // Answers each address, by parts of a file: its answer's number, and its output address or 0. Registers are decoded once.
 fn over(
     file: &[u8],
-    front: Part,
+    front: Front,
     parts: &[u64],
     high: bool,
     r: El2,

@@ -3,3 +3,4 @@ pub mod Searches
 pub mod Sparse
 pub mod Bytewise
 pub mod Spelled
+pub mod Logs

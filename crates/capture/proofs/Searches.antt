@@ -1,21 +1,24 @@
 -- A search among parts that ascend: only the last that starts at or below an address may have a descriptor there.
 -- Assumes nothing.
-use mathlib.Core.Path.{_≡_, refl, sym, ap, _∙_}
-use mathlib.Core.Bool.{Bool, true, false, _&&_}
+use mathlib.Core.Path.{_≡_, refl, sym, ap, _∙_, subst}
+use mathlib.Core.Bool.{Bool, true, false, _&&_, true≢false}
 use mathlib.Core.List.{List, [], _∷_}
 use Prim.Native.Nat.{ℕ, zero, suc, _+_, _-_, _*_, _≤_, _<_}
 use native.Mathlib.Omega.{arith}
 use lib.Dec.{leb, ltb, eqb}
 use lib.ListN.{length, take, drop, length-drop}
-use borrow.Author.Tests.{leb-true, lt-leb, ltb-true, ltb-false}
+use borrow.Author.Tests.{le-leb, leb-true, lt-leb, ltb-true, ltb-false}
 use lib.Seq.{length-take-le}
 use Rattle.bits.specs.Bits.{pick}
-use Rattle.reads.specs.Program.{Request}
+use Rattle.reads.specs.Program.{Request, Reader}
 use Rattle.reads.specs.declared.Read.{Read}
 use Rattle.reads.specs.declared.Read.the-variants.{Absent, Word}
 use Rattle.capture.specs.Capture.{kept, bytesOf, within, wordAt, found, memory}
-use Rattle.capture.specs.Calls.{partAt, partsFrom, countOf, partsBy, Lies, Ascending, StartingBy}
+use Rattle.capture.specs.Calls.{partAt, partsFrom, countOf, partsBy, Lies, Ascending, Ordered, StartingBy, Inside, spelled, wordOf, Placed}
 use Rattle.capture.specs.declared.Part.{Part}
+use Rattle.capture.specs.declared.Spot.{Spot}
+use Rattle.capture.specs.declared.Place.{Place}
+use Rattle.capture.specs.declared.Place.the-variants.{Nowhere, At}
 
 -- a part has no descriptor at an address
 abbrev Misses : Part → ℕ → Type 0
@@ -106,3 +109,70 @@ module _ (p : Part) (l : List Part) (file : List ℕ) (q : Request) where
   pub front-lacks : memory (p ∷ []) file q ≡ Absent → memory l file q ≡ memory (p ∷ l) file q
   unfolding memory
   front-lacks h = lacks-by (within (p .address) (kept p) (q .address)) _ _ h
+
+-- a part that starts at or below an address has the descriptor there if enough of it is left
+module _ (p : Part) (file : List ℕ) (q : Request) (starts : p .address ≤ q .address) where
+  pub part-has : q .address - p .address + 8 ≤ kept p → Word (wordAt (p .address) (bytesOf p file) (q .address)) ≡ memory (p ∷ []) file q
+  unfolding memory within pick
+  part-has room =
+      let ends : q .address + 8 ≤ p .address + kept p = omega (arith, starts, room) in
+      rw (le-leb _ _ starts, le-leb _ _ ends)
+
+  pub part-lacks : kept p < q .address - p .address + 8 → Absent ≡ memory (p ∷ []) file q
+  unfolding memory within pick
+  part-lacks short =
+      let ends : p .address + kept p < q .address + 8 = omega (arith, starts, short) in
+      rw (le-leb _ _ starts, lt-leb _ _ ends)
+
+-- ---- where a descriptor stands
+
+spot-of : Place → Spot
+spot-of Nowhere = record { from = 0; to = 0; at = 0 }
+spot-of (At s) = s
+
+is-at : Place → Bool
+is-at Nowhere = false
+is-at (At s) = true
+
+module _ {words file : List ℕ} {address : ℕ} where
+  pub placed-nowhere : ((reader : Reader) → Absent ≡ memory (partsBy words) file (record { reader = reader; address = address })) → Placed words file address Nowhere
+  unfolding is-at wordOf
+  placed-nowhere h = record { inside = λ s e. absurd (true≢false (sym (ap is-at e))); holds = h }
+
+  pub placed-at : (s : Spot) → Inside (length file) s →
+      ((reader : Reader) → Word (spelled file s) ≡ memory (partsBy words) file (record { reader = reader; address = address })) →
+      Placed words file address (At s)
+  unfolding spot-of wordOf
+  placed-at s i h = record { inside = λ t e. subst (Inside (length file)) (ap spot-of e) i; holds = h }
+
+-- by the last part that starts at or below the address
+module _ {words : List ℕ} {address k : ℕ} (s : StartingBy words address k) (some : 0 < k) where
+  pub last : k - 1 < countOf words
+  last = omega (arith, s .within, some)
+
+  pub starts : partAt words (k - 1) .address ≤ address
+  starts = s .below (k - 1) (omega (arith, some))
+
+  module _ (file : List ℕ) (o : Ascending words (length file)) where
+    pub spot-lacks : kept (partAt words (k - 1)) < address - partAt words (k - 1) .address + 8 → Placed words file address Nowhere
+    spot-lacks short = placed-nowhere (λ reader. part-lacks _ file _ starts short ∙ sym (last-starts words file _ k s o some))
+
+    pub spot-has : address - partAt words (k - 1) .address + 8 ≤ kept (partAt words (k - 1)) →
+        Placed words file address (At (record { from = partAt words (k - 1) .from; to = partAt words (k - 1) .to; at = address - partAt words (k - 1) .address }))
+    spot-has room =
+        let l = o .lie (k - 1) last in
+        placed-at _ (record { order = l .order; within = l .inside; room = room }) (λ reader. part-has (partAt words (k - 1)) file _ starts room ∙ sym (last-starts words file _ k s o some))
+
+-- parts that ascend may be searched
+pub ordered : {words : List ℕ} {length : ℕ} → Ascending words length → Ordered words
+ordered o = record { starts = λ i j less inside. omega (arith, o .order i j less inside); parts = λ i less. o .lie i less .order }
+
+-- what a place says of the parts
+module _ {words file : List ℕ} {address : ℕ} {p : Place} (placed : Placed words file address p) where
+  pub none-placed : p ≡ Nowhere → (reader : Reader) → Absent ≡ memory (partsBy words) file (record { reader = reader; address = address })
+  unfolding wordOf
+  none-placed e reader = rw e at (placed .holds reader)
+
+  pub one-placed : {s : Spot} → p ≡ At s → (reader : Reader) → Word (spelled file s) ≡ memory (partsBy words) file (record { reader = reader; address = address })
+  unfolding wordOf
+  one-placed e reader = rw e at (placed .holds reader)

@@ -11,14 +11,14 @@ use borrow.Author.Tests.{leb-true}
 use Rattle.bits.proofs.Tests.{and-left, and-right}
 use Rattle.capture.specs.Capture.{anyHigh, memory}
 use Rattle.capture.specs.Calls as Calls
-use Rattle.capture.specs.Calls.{Held}
+use Rattle.capture.specs.Calls.{ahead, Held}
 use Rattle.layout.specs.Elf.{headed, banks, parts, isCore}
 use Rattle.layout.specs.Layout.{core, layout, captured}
 use Rattle.layout.specs.Calls.{partWords, frontOf, Lays}
 use Rattle.layout.specs.declared.Laid.{Laid}
 use Rattle.layout.proofs.Parts.{parts-by, laid-held, front-spare}
 
-pub core-captured : (file : List ℕ) → captured core file ≡ Calls.captured (frontOf (parts file)) (partWords (parts file)) file
+pub core-captured : (file : List ℕ) → captured core file ≡ Calls.captured (ahead (frontOf (parts file))) (partWords (parts file)) file
 unfolding layout
 core-captured file = sym (ap (λ l. memory (frontOf (parts file) ∷ l) file) (parts-by (parts file)) ∙ fun-ext (λ q. front-spare (parts file) file q))
 

@@ -15,7 +15,7 @@ use Rattle.bits.proofs.Tests.{and-left, and-right}
 use Rattle.reads.specs.Program.{Request, All, nil, cons}
 use Rattle.reads.specs.declared.Read.{Read}
 use Rattle.capture.specs.Capture.{Bank, part, kept, endsHigh, anyHigh, within, memory}
-use Rattle.capture.specs.Calls.{partAt, partsFrom, countOf, partsBy, Lies, Held}
+use Rattle.capture.specs.Calls.{partAt, partsFrom, countOf, partsBy, ahead, Lies, Held}
 use Rattle.capture.specs.declared.Part.{Part}
 use Rattle.capture.proofs.Lesser.{part-lies}
 use Rattle.layout.specs.Elf.{headed, banks, mostBanks, follows, ascend, parts, wellLaid, isCore}
@@ -175,12 +175,12 @@ core-ascends : (file : List ℕ) → isCore file ≡ true → ascend (banks file
 unfolding isCore wellLaid
 core-ascends file e = and-left _ _ (and-left _ _ (and-left _ _ (and-right (headed file && leb (length (banks file)) mostBanks) _ e)))
 
-pub laid-held : (file : List ℕ) → isCore file ≡ true → anyHigh (banks file) ≡ false → Held (frontOf (parts file)) (partWords (parts file)) file
+pub laid-held : (file : List ℕ) → isCore file ≡ true → anyHigh (banks file) ≡ false → Held (ahead (frontOf (parts file))) (partWords (parts file)) file
 laid-held file e low =
     let lie = all-lie file (banks file) low in
     let n : countOf (partWords (parts file)) ≡ length (banks file) = part-count (parts file) ∙ length-map (banks file) (part (length file)) in
     record {
-      lies = front-lies (length file) (parts file) lie;
+      leads = record { lies = front-lies (length file) (parts file) lie; back = refl };
       ascending =
           record {
             lie = λ i h. at-each (parts file) lie i (rw (part-count (parts file)) at h);

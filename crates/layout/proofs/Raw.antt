@@ -11,15 +11,20 @@ use Rattle.reads.specs.Program.{Request}
 use Rattle.reads.specs.declared.Read.{Read}
 use Rattle.capture.specs.Capture.{least, part, endsHigh, anyHigh, memory}
 use Rattle.capture.specs.Calls as Calls
-use Rattle.capture.specs.Calls.{partsFrom, Held}
+use Rattle.capture.specs.Calls.{partsFrom, ahead, Held}
+use Rattle.capture.specs.declared.Front.{Front}
 use Rattle.capture.specs.declared.Part.{Part}
 use Rattle.capture.proofs.Lesser.{least-left, least-right}
 use Rattle.layout.specs.Layout.{raw, layout, partsOf, captured}
 
-abbrev pub whole : (base : ℕ) (file : List ℕ) → Part
-whole base file = record { address = base; from = 0; to = length file }
+abbrev all : (base : ℕ) (file : List ℕ) → Part
+all base file = record { address = base; from = 0; to = length file }
 
-pub raw-parts : (base : ℕ) (file : List ℕ) → partsOf (raw base) file ≡ whole base file ∷ []
+-- as the part in front
+abbrev pub whole : (base : ℕ) (file : List ℕ) → Front
+whole base file = ahead (all base file)
+
+pub raw-parts : (base : ℕ) (file : List ℕ) → partsOf (raw base) file ≡ all base file ∷ []
 unfolding part layout
 raw-parts base file =
     let from : least 0 (length file) ≡ 0 = least-left 0 (length file) (omega arith) in
@@ -43,6 +48,6 @@ pub raw-held : (base : ℕ) (file : List ℕ) → endsHigh base (length file) �
 raw-held base file e =
     let h : base + length file ≤ 2 ^ 48 = ltb-false _ _ e in
     record {
-      lies = record { order = omega arith; inside = omega arith; fits = omega (arith, h) };
+      leads = record { lies = record { order = omega arith; inside = omega arith; fits = omega (arith, h) }; back = refl };
       ascending = record { lie = λ i less. absurd (omega (arith, less)); order = λ i j less inside. absurd (omega (arith, inside)) };
     }

@@ -9,7 +9,7 @@ use lib.ListN.{length, getD, take}
 use lib.Seq.{sets}
 use Rattle.bits.specs.Bits.{pick}
 use Rattle.capture.specs.Capture.{Bank, anyHigh}
-use Rattle.capture.specs.Calls.{countOf, partsBy}
+use Rattle.capture.specs.Calls.{countOf, partsBy, ahead}
 use Rattle.capture.specs.declared.Part.{Part}
 use Rattle.layout.specs.declared.Said.{Said}
 use Rattle.layout.specs.declared.Laid.{Laid}
@@ -63,6 +63,6 @@ pub record Reads (file words : List ℕ) (r : Said) (words′ : List ℕ) : Type
 pub record Lays (file : List ℕ) (r : Laid) (words′ : List ℕ) : Type 0 where
   pub readable : r .readable ≡ isCore file
   pub high : isCore file ≡ true → r .high ≡ anyHigh (banks file)
-  pub front : isCore file ≡ true → r .front ≡ frontOf (parts file)
+  pub front : isCore file ≡ true → r .front ≡ ahead (frontOf (parts file))
   pub count : isCore file ≡ true → r .count ≡ length (banks file)
   pub written : isCore file ≡ true → take (3 * length (banks file)) words′ ≡ partWords (parts file)

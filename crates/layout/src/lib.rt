@@ -1,6 +1,7 @@
 // Where the banks of a core file lie, by its headers, and what the file has of them (02, §1).
 // A bank is three words side by side: its address, its offset in the file and its size, as its header says them. What the file has of it
 // is three words too: the address, and from where to before where its bytes stand.
+use capture::Front;
 use capture::Part;
 ghost use mathlib.Core.Path.{_≡_};
 ghost use mathlib.Core.List.{map};
@@ -33,7 +34,7 @@ pub struct Laid {
     // A bank ends past 2^48.
     pub high: bool,
     pub count: usize,
-    pub front: Part,
+    pub front: Front,
 }
 
 fn unreadable() -> Said
@@ -136,6 +137,6 @@ pub fn lay_out(file: &[u8], words: &mut [u64]) -> Laid
         readable,
         high,
         count,
-        front: front_of(&words[0..end]),
+        front: capture::ahead(front_of(&words[0..end])),
     }
 }

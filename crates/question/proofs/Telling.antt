@@ -104,7 +104,7 @@ module _ (r : El2) (g : El1) (a : Access) (log : List ℕ) {answer : Answer} {lo
   pub raw-told : {high : Bool} {front : _} (base : ℕ) (file : List ℕ) → front ≡ whole base file → high ≡ endsHigh base (length file) →
       Tells (askOver (Calls.captured front [] file) false high r g a log) answer log′ → Promised (raw base) file r g a log answer log′
   unfolding ask layout
-  raw-told base file e h t = promised _ _ (rw (raw-captured base file, raw-high base file, ← e, ← h) t)
+  raw-told base file e h t = promised _ _ (rw (raw-captured base file, raw-high base file) (rw (e, h) at t))
 
   -- a core file that is accepted
   pub core-told : {file words′ : List ℕ} {f : Laid} (l : Lays file f words′) (readable : f .readable ≡ true) →

@@ -3,7 +3,7 @@ use access::Access;
 use answers::Answer;
 use answers::Refusal;
 use answers::Verdict;
-use capture::Part;
+use capture::Front;
 use registers::El1;
 use registers::El2;
 use stages::both;
@@ -43,7 +43,7 @@ fn answer_of(r: El2, g: El1, a: Access, last: Arrival) -> Answer
 // the log, in order; every other word of it is kept.
 fn arrival(
     file: &[u8],
-    front: Part,
+    front: Front,
     parts: &[u64],
     r: El2,
     g: El1,

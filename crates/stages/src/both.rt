@@ -4,7 +4,7 @@ use crate::stage1::Opening;
 use crate::stage1::Prepared1;
 use access::Access;
 use attributes::Attributes;
-use capture::Part;
+use capture::Front;
 use descriptor::entry;
 use descriptor::entry::FaultKind;
 use descriptor::turn;
@@ -108,7 +108,7 @@ fn first(end: End) -> Arrival
 // From where it begins. Each turn takes one address through stage 2: that of a stage 1 descriptor, and at last that of stage 1's output.
 fn walk1(
     file: &[u8],
-    front: Part,
+    front: Front,
     parts: &[u64],
     p: Prepared1,
     q: Prepared2,
@@ -162,7 +162,7 @@ fn walk1(
         } else if !walking {
             return unplaced(ipa, left, word1, k);
         }
-        match capture::read(file, front, parts, at) {
+        match capture::read_logged(file, front, parts, at, log, k) {
             Read::Absent => {
                 return first(End {
                     ending: Ending::Absent,
@@ -173,7 +173,6 @@ fn walk1(
                 });
             }
             Read::Word(x) => {
-                log[k] = at;
                 k += 1;
                 let turn = turn::turn(g, masks, left, x);
                 if end::leads_down(turn) {
@@ -184,8 +183,12 @@ fn walk1(
                 } else {
                     let ended = stage1::at_entry(p, a, tables, turn, x);
                     if end::passed(ended) {
+                        let output = entry::output_address(x, shift, input);
+                        if !on {
+                            return unplaced(output, left, x, k);
+                        }
                         walking = false;
-                        ipa = entry::output_address(x, shift, input);
+                        ipa = output;
                         word1 = x;
                     } else {
                         return first(end::stopped(ended, 3 - left, k));
@@ -199,7 +202,7 @@ fn walk1(
 // An access, from prepared stages.
 pub fn access(
     file: &[u8],
-    front: Part,
+    front: Front,
     parts: &[u64],
     p: Prepared1,
     q: Prepared2,

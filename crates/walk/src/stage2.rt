@@ -7,7 +7,7 @@ use crate::start::Start;
 use crate::table::Root;
 use access::Access;
 use attributes::MemoryClass;
-use capture::Part;
+use capture::Front;
 use descriptor::entry;
 use descriptor::permission;
 use descriptor::turn;
@@ -91,7 +91,7 @@ fn check2(p: Prepared2, a: Access, onwalk: bool, x: u64) -> Ending
 // From the root down; each read's address goes into the log from count on.
 fn walk2(
     file: &[u8],
-    front: Part,
+    front: Front,
     parts: &[u64],
     p: Prepared2,
     a: Access,
@@ -114,7 +114,7 @@ fn walk2(
     let mut at = start::first_entry(table, shift, ipa);
     let mut k = count;
     loop {
-        match capture::read(file, front, parts, at) {
+        match capture::read_logged(file, front, parts, at, log, k) {
             Read::Absent => {
                 return End {
                     ending: Ending::Absent,
@@ -125,7 +125,6 @@ fn walk2(
                 };
             }
             Read::Word(x) => {
-                log[k] = at;
                 k += 1;
                 let turn = turn::turn(g, masks, left, x);
                 if end::leads_down(turn) {
@@ -133,9 +132,10 @@ fn walk2(
                     shift -= stride;
                     at = turn::next_entry(g, masks, x, ipa, shift);
                 } else if end::is_leaf(turn) {
+                    let address = entry::output_address(x, shift, ipa);
                     return End {
                         ending: check2(p, a, onwalk, x),
-                        address: entry::output_address(x, shift, ipa),
+                        address,
                         word: x,
                         level: 3 - left,
                         count: k,
@@ -151,7 +151,7 @@ fn walk2(
 // Where stage 2 puts an IPA.
 pub fn translate2(
     file: &[u8],
-    front: Part,
+    front: Front,
     parts: &[u64],
     p: Prepared2,
     a: Access,

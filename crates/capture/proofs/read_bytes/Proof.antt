@@ -36,12 +36,14 @@ read-bytes-spec =
     (λ c κs. search needs)
     (λ c κs. search needs)
     (λ c κs. search needs)
+    (λ c κs. search needs)
     (λ c.
-    let a = c .before .before .before .before .before .args in
-    let at = c .before .before .wrapping-sub-u64 .result in
+    let a = c .before .before .before .before .before .before .args in
+    let at = c .before .before .before .wrapping-sub-u64 .result in
+    let place = c .before .wrapping-add-u64 .result in
     let h : a .base ≤ a .address = omega arith in
     let k : a .address + 8 ≤ a .base + length (now (a .bytes)) = omega arith in
-    let e : at ≡ a .address - a .base = omega arith in
+    let e : place ≡ a .address - a .base = omega arith in
     simp le-leb (ap Word (c .word .ensures ∙ rw e (eight (a .address - a .base) (now (a .bytes)) (omega arith)))))
     (λ c.
     let a = c .before .before .before .before .args in

@@ -13,6 +13,7 @@ use lib.ListN.{length, take, length-map}
 use lib.Seq.{sets, length-sets}
 use Rattle.bits.proofs.Tests.{and-left, and-right, by-pick, pick-true}
 use Rattle.capture.specs.Capture.{part, anyHigh}
+use Rattle.capture.specs.Calls.{ahead}
 use Rattle.capture.specs.declared.Part.{Part}
 use Rattle.layout.specs.declared.Said.{Said}
 use Rattle.layout.specs.Elf.{headed, banks, mostBanks, parts, isCore}
@@ -73,16 +74,17 @@ lay-out-spec =
     (λ c. search needs)
     (λ c. let h = few _ _ _ (c .before .before .before .before .before .before .before .before .before .before .read-headers .ensures) in search needs)
     (λ c κs. search needs)
+    (λ c κs. search needs)
     (λ c. search needs)
     (λ c.
-    let k = c .before .before .before .before .before in
+    let k = c .before .before .before .before .before .before in
     let z = k .before .before .before .before .before .before .before in
     let read = z .read-headers .ensures in
     let room = z .before .before .before .before .pre in
     record {
       readable = read .readable;
       high = λ e. high _ _ _ read room e (k .before .before .any-high .ensures);
-      front = λ e. front _ _ _ read room e _ (k .keep .ensures) (c .front-of .ensures);
+      front = λ e. c .ahead .ensures ∙ ap ahead (front _ _ _ read room e _ (k .keep .ensures) (c .before .front-of .ensures));
       count = counted _ _ _ read room;
       written = λ e. laid _ _ _ read room e _ (k .keep .ensures);
     }))

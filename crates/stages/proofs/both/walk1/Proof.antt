@@ -14,6 +14,7 @@ use Rattle.reads.proofs.Ran.{ran-length}
 use Rattle.descriptor.specs.Entry.{shift}
 use Rattle.descriptor.proofs.Turns.{down-more}
 use Rattle.capture.specs.Calls.{captured}
+use Rattle.capture.proofs.Logs.{log-kept, log-set}
 use Rattle.walk.specs.Ends.{passed}
 use Rattle.walk.specs.Calls.{Fit, stage2Of}
 use Rattle.walk.proofs.Turns.{is-down}
@@ -101,65 +102,88 @@ long c = ran-length (placed c .run) ∙ going-same (c .before .loop .inv)
 
 returns-4 : tie.Need-returns-4 Inv-loop μ-loop
 returns-4 c =
-    let j = c .before .before .before .before in
-    rw (c .first .ensures)
-    ((going-absent (j .before .loop .inv) (placed j) _ refl refl refl (sym (c .before .before .before .read .ensures stage-1) ∙ c .before .enum-told .given .1), omega (arith, few j)))
+    let r = c .before .before .before .before .before in
+    let j = r .before .before in
+    let absent = c .before .enum-told .given .1 in
+    rw (c .first .ensures, log-kept _ _ _ _ _ (r .read-logged .ensures .1) absent)
+    ((going-absent (j .before .loop .inv) (placed j) _ refl refl refl (sym (r .read-logged .ensures .0 stage-1) ∙ absent), omega (arith, few j)))
 
 turn-requires : tie.Need-turn-requires Inv-loop μ-loop
-turn-requires c κs = let f = fit (c .before .before .before .before .before) in (f .masks, f .small .block)
+turn-requires c κs = let f = fit (c .before .before .before .before .before .before .before .before) in (f .masks, f .small .block)
 
 -- ---- an entry that leads down
 
-more : (c : tie.Then5 Inv-loop μ-loop) → 0 < c .before .before .before .before .before .before .before .before .before .loop .left
+more : (c : tie.Then5 Inv-loop μ-loop) → 0 < c .before .before .before .before .before .before .before .before .before .before .before .before .loop .left
 more c = down-more _ _ _ (sym (c .before .before .turn .ensures) ∙ is-down _ (sym (c .before .leads-down .ensures) ∙ c .if5 .taken))
 
 sub-shift : tie.Need-sub-shift Inv-loop μ-loop
 sub-shift c =
-    let j = c .before .before .before .before .before .before .before .before in
+    let j = c .before .before .before .before .before .before .before .before .before .before .before in
     let g = j .before .before .before .before .before .before .before .before .before .args .o .start .table .geometry in
     let once : g .stride * 1 ≤ g .stride * j .before .loop .left = mul-le-mul (le-refl _) (more c) in
     omega (arith, entry j .1)
 
 next-entry-requires : tie.Need-next-entry-requires Inv-loop μ-loop
 next-entry-requires c κs =
-    let j = c .before .before .before .before .before .before .before .before in
+    let j = c .before .before .before .before .before .before .before .before .before .before .before in
     let f = fit j in
     (f .masks, f .small .grainsize, f .small .stride, omega (arith, entry j .2))
 
 loop-less : tie.Need-loop-less Inv-loop μ-loop
 unfolding pick
-loop-less c = rw (placed (c .before .before .before .before .before .before .before .before .before) .walks) (omega (arith, more (c .before)))
+loop-less c = rw (placed (c .before .before .before .before .before .before .before .before .before .before .before .before) .walks) (omega (arith, more (c .before)))
 
 loop-again : tie.Need-loop-again Inv-loop μ-loop
 loop-again c =
     let b = c .before in
-    let j = c .before .before .before .before .before .before .before .before .before in
-    rw (c .next-entry .ensures)
-    (going-down (j .before .loop .inv) (placed j) (sym (b .before .before .before .before .before .before .before .read .ensures stage-1) ∙ b .before .before .before .before .before .x .given .1)
+    let x = b .before .before .before .before .before in
+    let r = x .before .before .before .before in
+    let j = r .before .before in
+    rw (c .next-entry .ensures, log-set _ _ _ _ _ (r .read-logged .ensures .1) (x .x .given .1))
+    (going-down (j .before .loop .inv) (placed j) (sym (r .read-logged .ensures .0 stage-1) ∙ x .x .given .1)
     (rw (b .before .before .turn .ensures) at (sym (b .before .leads-down .ensures) ∙ b .if5 .taken)) (more b))
 
 -- ---- an entry that does not
 
+-- a leaf that passes, with stage 2 off
+returns-5 : tie.Need-returns-5 Inv-loop μ-loop
+returns-5 c =
+    let b = c .before .before .before .before .before .before in
+    let x = b .before .before .before .before .before in
+    let r = x .before .before .before .before in
+    let j = r .before .before in
+    let off = not-true _ (c .before .if7 .taken) in
+    let now = going-leaf (j .before .loop .inv) (placed j) (sym (r .read-logged .ensures .0 stage-1) ∙ x .x .given .1)
+    (rw (b .before .before .turn .ensures) at (sym (b .before .leads-down .ensures) ∙ b .if5 .left)) _ (rw (b .before .before .turn .ensures) at (c .before .before .before .before .before .at-entry .ensures))
+    (sym (c .before .before .before .before .passed2 .ensures) ∙ c .before .before .before .if6 .taken) in
+    rw (c .unplaced2 .ensures, c .before .before .output-address .ensures, log-set _ _ _ _ _ (r .read-logged .ensures .1) (x .x .given .1))
+    ((going-ends now (seconded-off _ _ _ _ _ off) refl, omega (arith, going-few now)))
+
+-- and with stage 2 on
 loop-less-2 : tie.Need-loop-less-2 Inv-loop μ-loop
 unfolding pick
-loop-less-2 c = rw (placed (c .before .before .before .before .before .before .before .before .before .before .before .before) .walks) (omega arith)
+loop-less-2 c = rw (placed (c .before .before .before .before .before .before .before .before .before .before .before .before .before .before .before .before) .walks) (omega arith)
 
 loop-again-2 : tie.Need-loop-again-2 Inv-loop μ-loop
 loop-again-2 c =
-    let b = c .before .before .before .before in
-    let j = b .before .before .before .before .before .before .before .before in
-    rw (c .output-address .ensures)
-    (going-leaf (j .before .loop .inv) (placed j) (sym (b .before .before .before .before .before .before .before .read .ensures stage-1) ∙ b .before .before .before .before .before .x .given .1)
-    (rw (b .before .before .turn .ensures) at (sym (b .before .leads-down .ensures) ∙ b .if5 .left)) _ (rw (b .before .before .turn .ensures) at (c .before .before .before .at-entry .ensures))
-    (sym (c .before .before .passed2 .ensures) ∙ c .before .if6 .taken))
-
-returns-5 : tie.Need-returns-5 Inv-loop μ-loop
-returns-5 c =
     let b = c .before .before .before .before .before in
-    let j = b .before .before .before .before .before .before .before .before in
-    rw (c .first2 .ensures, c .before .stopped .ensures)
+    let x = b .before .before .before .before .before in
+    let r = x .before .before .before .before in
+    let j = r .before .before in
+    rw (c .before .output-address .ensures, log-set _ _ _ _ _ (r .read-logged .ensures .1) (x .x .given .1))
+    (going-leaf (j .before .loop .inv) (placed j) (sym (r .read-logged .ensures .0 stage-1) ∙ x .x .given .1)
+    (rw (b .before .before .turn .ensures) at (sym (b .before .leads-down .ensures) ∙ b .if5 .left)) _ (rw (b .before .before .turn .ensures) at (c .before .before .before .before .at-entry .ensures))
+    (sym (c .before .before .before .passed2 .ensures) ∙ c .before .before .if6 .taken))
+
+returns-6 : tie.Need-returns-6 Inv-loop μ-loop
+returns-6 c =
+    let b = c .before .before .before .before .before in
+    let x = b .before .before .before .before .before in
+    let r = x .before .before .before .before in
+    let j = r .before .before in
+    rw (c .first2 .ensures, c .before .stopped .ensures, log-set _ _ _ _ _ (r .read-logged .ensures .1) (x .x .given .1))
     ((
-      going-over (j .before .loop .inv) (placed j) (sym (b .before .before .before .before .before .before .before .read .ensures stage-1) ∙ b .before .before .before .before .before .x .given .1)
+      going-over (j .before .loop .inv) (placed j) (sym (r .read-logged .ensures .0 stage-1) ∙ x .x .given .1)
           (rw (b .before .before .turn .ensures) at (sym (b .before .leads-down .ensures) ∙ b .if5 .left)) _ (rw (b .before .before .turn .ensures) at (c .before .before .before .before .at-entry .ensures))
           (sym (c .before .before .before .passed2 .ensures) ∙ c .before .before .if6 .left),
       omega (arith, few j),
@@ -183,16 +207,14 @@ walk1-spec =
     (λ c κs. search needs)
     (λ c. ran-length (returns-3 c .0))
     returns-3
-    (λ c κs. c .before .before .before .before .before .before .before .before .before .pre .2)
+    (λ c κs. let j = c .before in (j .before .before .before .before .before .before .before .before .before .pre .2, omega (arith, few j, long j, j .before .before .before .before .before .before .before .before .before .pre .3)))
     (λ c. search needs)
-    (λ c. entry (c .before .before .before) .0)
+    (λ c. entry (c .before .before .before .before .before .before) .0)
     (λ c κs. search needs)
     (λ c. ran-length (returns-4 c .0))
     returns-4
     (λ c. search needs)
-    (λ c. record { fits = omega (arith, few (c .before .before .before .before .before)) })
-    (λ c. let j = c .before .before .before .before .before in omega (arith, few j, long j, j .before .before .before .before .before .before .before .before .before .pre .3))
-    (λ c. record { fits = omega (arith, few (c .before .before .before .before .before)) })
+    (λ c. record { fits = omega (arith, few (c .before .before .before .before .before .before .before .before)) })
     turn-requires
     (λ c κs. search needs)
     more
@@ -200,13 +222,16 @@ walk1-spec =
     next-entry-requires
     loop-less
     loop-again
-    (λ c κs. c .before .before .before .before .before .before .before .before .before .before .before .before .before .before .before .before .before .pre .1)
+    (λ c κs. c .before .before .before .before .before .before .before .before .before .before .before .before .before .before .before .before .before .before .before .before .pre .1)
     (λ c κs. search needs)
-    (λ c κs. entry (c .before .before .before .before .before .before .before .before .before .before .before) .2)
-    loop-less-2
-    loop-again-2
-    (λ c. entry (c .before .before .before .before .before .before .before .before .before .before .before) .0)
-    (λ c κs. search needs)
+    (λ c κs. entry (c .before .before .before .before .before .before .before .before .before .before .before .before .before .before) .2)
     (λ c κs. search needs)
     (λ c. ran-length (returns-5 c .0))
-    returns-5)
+    returns-5
+    loop-less-2
+    loop-again-2
+    (λ c. entry (c .before .before .before .before .before .before .before .before .before .before .before .before .before .before) .0)
+    (λ c κs. search needs)
+    (λ c κs. search needs)
+    (λ c. ran-length (returns-6 c .0))
+    returns-6)

@@ -1,7 +1,7 @@
 -- `walk2` meets its contract: whatever finishes the walk from an entry finishes the whole.
 -- Assumes nothing.
 use borrow.Author.Needs.{needs}
-use mathlib.Core.Path.{_≡_, refl, sym, _∙_}
+use mathlib.Core.Path.{_≡_, refl, sym, ap, _∙_}
 use mathlib.Core.Bool.{Bool, not, _&&_}
 use mathlib.Core.List.{List}
 use Prim.Native.Nat.{ℕ, _+_, _-_, _*_, _≤_, _<_}
@@ -17,6 +17,7 @@ use Rattle.descriptor.specs.Entry.{nothing, decode, outputAddress}
 use Rattle.descriptor.specs.Turn.{turnOf}
 use Rattle.descriptor.proofs.Turns.{down-more}
 use Rattle.capture.specs.Calls.{captured}
+use Rattle.capture.proofs.Logs.{log-kept, log-set}
 use Rattle.bits.specs.Bits.{pick}
 use Rattle.walk.specs.declared.stop.Stage.the-variants.{Two}
 use Rattle.walk.specs.Walk.{entryAddress}
@@ -64,33 +65,34 @@ loop-holds c =
 
 turn-requires : tie.Need-turn-requires Inv-loop μ-loop
 turn-requires c κs =
-    let f = c .before .before .before .before .before .before .before .before .before .before .before .before .before .pre .0 in
+    let f = c .before .before .before .before .before .before .before .before .before .before .before .before .before .before .before .before .pre .0 in
     (f .masks, f .small .block)
 
 -- an entry that leads down has a level below it
-more : (c : tie.Then1 Inv-loop μ-loop) → 0 < c .before .before .before .before .before .before .before .loop .left
+more : (c : tie.Then1 Inv-loop μ-loop) → 0 < c .before .before .before .before .before .before .before .before .before .before .loop .left
 more c = down-more _ _ _ (sym (c .before .before .turn .ensures) ∙ is-down _ (sym (c .before .leads-down .ensures) ∙ c .if1 .taken))
 
 stride-left : tie.Need-sub-shift Inv-loop μ-loop
 stride-left c =
-    let l = c .before .before .before .before .before .before .before in
+    let l = c .before .before .before .before .before .before .before .before .before .before in
     let once : l .before .before .before .before .before .before .before .before .before .args .p .start .table .geometry .stride * 1 ≤ l .before .before .before .before .before .before .before .before .before .args .p .start .table .geometry .stride * l .loop .left = mul-le-mul (le-refl _) (more c) in
     omega (arith, l .loop .inv .0 .shifted)
 
 next-entry-requires : tie.Need-next-entry-requires Inv-loop μ-loop
 next-entry-requires c κs =
-    let l = c .before .before .before .before .before .before .before in
+    let l = c .before .before .before .before .before .before .before .before .before .before in
     let f = l .before .before .before .before .before .before .before .before .before .pre .0 in
     (f .masks, f .small .grainsize, f .small .stride, omega (arith, l .loop .inv .0 .low))
 
 loop-again : tie.Need-loop-again Inv-loop μ-loop
 loop-again c =
     let b = c .before in
-    let r = b .before .before .before .before .before .before in
-    let l = r .before in
-    rw (c .next-entry .ensures)
+    let x = b .before .before .before .before in
+    let r = x .before .before .before .before in
+    let l = r .before .before in
+    rw (c .next-entry .ensures, log-set _ _ _ _ _ (r .read-logged .ensures .1) (x .x .given .1))
     ((
-      walking-down (l .loop .inv .0) (ran-done _ _ _ _) (sym (r .read .ensures stage-2) ∙ b .before .before .before .before .x .given .1) (rw (b .before .before .turn .ensures) at (sym (b .before .leads-down .ensures) ∙ b .if1 .taken)) (more b),
+      walking-down (l .loop .inv .0) (ran-done _ _ _ _) (sym (r .read-logged .ensures .0 stage-2) ∙ x .x .given .1) (rw (b .before .before .turn .ensures) at (sym (b .before .leads-down .ensures) ∙ b .if1 .taken)) (more b),
       omega (arith, more b, l .loop .inv .1),
       omega (arith, more b, l .loop .inv .1, l .before .before .before .before .before .before .before .before .before .pre .3, l .before .before .before .before .before .before .before .before .before .pre .0 .small .some),
     ))
@@ -104,39 +106,46 @@ first c = rw (c .before .before .before .before .before .before .before .before 
 returns : tie.Need-returns Inv-loop μ-loop
 unfolding pick outcome stopBy
 returns c =
-    let l = c .before .before .before in
-    let p = l .before .before .before .before .before .before .before .before .before .pre in (
+    let r = c .before .before .before .before in
+    let l = r .before .before in
+    let p = l .before .before .before .before .before .before .before .before .before .pre in
+    rw (log-kept _ _ _ _ _ (r .read-logged .ensures .1) (c .enum-told .given .1))
+    ((
       from-stopped _ done _ _ _ (l .before .before .before .before .before .before .before .before .before .args .p .start .table) refl (p .0 .small .some) _ (first l)
-          (walking-absent (l .loop .inv .0) (ran-done _ _ _ _) (sym (c .before .before .read .ensures stage-2) ∙ c .enum-told .given .1)),
+          (walking-absent (l .loop .inv .0) (ran-done _ _ _ _) (sym (r .read-logged .ensures .0 stage-2) ∙ c .enum-told .given .1)),
       omega (arith, l .loop .inv .1),
-    )
+    ))
 
 returns-2 : tie.Need-returns-2 Inv-loop μ-loop
 returns-2 c =
-    let r = c .before .before .before .before .before .before .before .before .before .before in
-    let l = r .before in
+    let x = c .before .before .before .before .before .before .before .before in
+    let r = x .before .before .before .before in
+    let l = r .before .before in
     let z = l .before .before .before .before .before .before .before .before .before .args in
-    let p = l .before .before .before .before .before .before .before .before .before .pre in (
+    let p = l .before .before .before .before .before .before .before .before .before .pre in
+    rw (log-set _ _ _ _ _ (r .read-logged .ensures .1) (x .x .given .1))
+    ((
       from-leaf _ done _ _ _ (z .p .start .table) refl (p .0 .small .some) _ (first l)
-          (walking-leaf (l .loop .inv .0) (ran-done _ _ _ _) (sym (r .read .ensures stage-2) ∙ c .before .before .before .before .before .before .before .before .x .given .1) (rw (c .before .before .before .before .before .before .turn .ensures) at (sym (c .before .before .before .is-leaf .ensures) ∙ c .before .before .if2 .taken)))
-          (leaf-checked _ _ _ _ _ _ _ _ _ (rw (l .loop .inv .0 .shifted) at (c .output-address .ensures)) refl refl (c .before .check2 .ensures)),
+          (walking-leaf (l .loop .inv .0) (ran-done _ _ _ _) (sym (r .read-logged .ensures .0 stage-2) ∙ x .x .given .1) (rw (c .before .before .before .before .before .before .turn .ensures) at (sym (c .before .before .before .is-leaf .ensures) ∙ c .before .before .if2 .taken)))
+          (leaf-checked _ _ _ _ _ _ _ _ _ (rw (l .loop .inv .0 .shifted) at (c .before .output-address .ensures)) refl refl (c .check2 .ensures)),
       omega (arith, l .loop .inv .1),
-    )
+    ))
 
 returns-3 : tie.Need-returns-3 Inv-loop μ-loop
 returns-3 c =
-    let r = c .before .before .before .before .before .before .before .before .before .before in
-    let l = r .before in
+    let x = c .before .before .before .before .before .before .before .before in
+    let r = x .before .before .before .before in
+    let l = r .before .before in
     let z = l .before .before .before .before .before .before .before .before .before .args in
     let p = l .before .before .before .before .before .before .before .before .before .pre in
     let t = c .before .before .before .before .before .before in
     let down = rw (t .turn .ensures) at (sym (c .before .before .before .before .before .leads-down .ensures) ∙ c .before .before .before .before .if1 .left) in
     let leaf = rw (t .turn .ensures) at (sym (c .before .before .before .is-leaf .ensures) ∙ c .before .before .if2 .left) in
-    rw (c .stopped .ensures)
+    rw (c .stopped .ensures, log-set _ _ _ _ _ (r .read-logged .ensures .1) (x .x .given .1))
     ((
       ran-over _ (stage2Attributes (uncached2 (stage2Of (z .p)) (z .a) (z .onwalk))) (turnOf (decode _ _ _)) _ (l .loop .k + 1) (rw (t .turn .ensures) at (c .before .over .ensures)) down leaf
           (from-stopped _ done _ _ _ (z .p .start .table) refl (p .0 .small .some) _ (first l)
-          (walking-over (l .loop .inv .0) (ran-done _ _ _ _) (sym (r .read .ensures stage-2) ∙ c .before .before .before .before .before .before .before .before .x .given .1) 0 down leaf)),
+          (walking-over (l .loop .inv .0) (ran-done _ _ _ _) (sym (r .read-logged .ensures .0 stage-2) ∙ x .x .given .1) 0 down leaf)),
       omega (arith, l .loop .inv .1),
     ))
 
@@ -149,15 +158,17 @@ walk2-spec =
     (λ c. c .before .before .before .before .before .before .before .pre .0 .small .some)
     first-entry-requires
     loop-holds
-    (λ c κs. c .before .before .before .before .before .before .before .before .before .pre .2)
+    (λ c κs. (c .before .before .before .before .before .before .before .before .before .before .pre .2, omega (arith, c .before .loop .inv .0 .same, c .before .loop .inv .2)))
     (λ c. search needs)
-    (λ c. c .before .before .before .loop .inv .0 .few)
-    (λ c. c .before .before .before .loop .inv .0 .same)
+    (λ c. c .before .before .before .before .before .before .loop .inv .0 .few)
+    (λ c. ap length (log-kept _ _ _ _ _ (c .before .before .before .before .read-logged .ensures .1) (c .enum-told .given .1)) ∙ c .before .before .before .before .before .before .loop .inv .0 .same)
     returns
     (λ c. search needs)
-    (λ c. search needs)
-    (λ c. omega (arith, c .before .before .before .before .loop .inv .0 .same, c .before .before .before .before .loop .inv .2))
-    (λ c. search needs)
+    (λ c.
+    let l = c .before .before .before .before .before .before .before in
+    let k : l .loop .k < length (l .before .before .before .before .before .before .before .before .before .args .log .now) = l .loop .inv .2 in
+    let room = l .before .before .before .before .before .before .before .before .before .good .1 .1 .1 .1 .1 .1 .1 .0 in
+    record { fits = omega (arith, k, room) })
     turn-requires
     (λ c κs. search needs)
     (λ c. more c)
@@ -166,13 +177,13 @@ walk2-spec =
     (λ c. omega (arith, more (c .before)))
     loop-again
     (λ c κs. search needs)
-    (λ c κs. c .before .before .before .before .before .before .before .before .before .before .before .before .before .before .before .before .before .before .pre .1)
-    (λ c κs. c .before .before .before .before .before .before .before .before .before .before .loop .inv .0 .low)
-    (λ c. c .before .before .before .before .before .before .before .before .before .before .before .loop .inv .0 .few)
-    (λ c. let l = c .before .before .before .before .before .before .before .before .before .before .before in length-set (l .loop .log) (l .loop .k) (l .loop .at) ∙ l .loop .inv .0 .same)
+    (λ c κs. c .before .before .before .before .before .before .before .before .before .before .before .before .loop .inv .0 .low)
+    (λ c κs. c .before .before .before .before .before .before .before .before .before .before .before .before .before .before .before .before .before .before .before .before .before .before .pre .1)
+    (λ c. c .before .before .before .before .before .before .before .before .before .before .before .before .before .before .loop .inv .0 .few)
+    (λ c. let l = c .before .before .before .before .before .before .before .before .before .before .before .before .before .before in ap length (log-set _ _ _ _ _ (c .before .before .before .before .before .before .before .before .before .before .before .before .read-logged .ensures .1) (c .before .before .before .before .before .before .before .before .x .given .1)) ∙ length-set (l .loop .log) (l .loop .k) (l .loop .at) ∙ l .loop .inv .0 .same)
     returns-2
     (λ c κs. search needs)
-    (λ c. c .before .before .before .before .before .before .before .before .before .before .loop .inv .0 .few)
+    (λ c. c .before .before .before .before .before .before .before .before .before .before .before .before .before .loop .inv .0 .few)
     (λ c κs. search needs)
-    (λ c. let l = c .before .before .before .before .before .before .before .before .before .before .before in length-set (l .loop .log) (l .loop .k) (l .loop .at) ∙ l .loop .inv .0 .same)
+    (λ c. let l = c .before .before .before .before .before .before .before .before .before .before .before .before .before .before in ap length (log-set _ _ _ _ _ (c .before .before .before .before .before .before .before .before .before .before .before .before .read-logged .ensures .1) (c .before .before .before .before .before .before .before .before .x .given .1)) ∙ length-set (l .loop .log) (l .loop .k) (l .loop .at) ∙ l .loop .inv .0 .same)
     returns-3)
