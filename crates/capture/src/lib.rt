@@ -157,6 +157,19 @@ fn word_at(file: &[u8], s: Spot) -> u64
     word(&file[from..to], s.at)
 }
 
+// The descriptor at a physical address, if a part by words has it.
+fn read_parts(file: &[u8], parts: &[u64], address: u64) -> Read
+    requires { ⌜ Calls.Ascending (now parts) (length (now file)) ⌝ }
+    ensures { λ r. ⌜ ((reader : Reader) →
+        r ≡ Captures.memory (Calls.partsBy (now (parts .entry))) (now (file .entry)) (record { reader = reader; address = address })) ⌝ }
+{
+    let place = find(parts, address);
+    match place {
+        Place::Nowhere => Read::Absent,
+        Place::At(s) => Read::Word(word_at(file, s)),
+    }
+}
+
 // The descriptor at a physical address. The part in front is tried before the others are searched, so that a capture of one bank costs
 // one comparison for each descriptor.
 pub fn read(file: &[u8], front: Front, parts: &[u64], address: u64) -> Read
@@ -167,13 +180,7 @@ pub fn read(file: &[u8], front: Front, parts: &[u64], address: u64) -> Read
     let found = read_front(file, front, address);
     match found {
         Read::Word(x) => Read::Word(x),
-        Read::Absent => {
-            let place = find(parts, address);
-            match place {
-                Place::Nowhere => Read::Absent,
-                Place::At(s) => Read::Word(word_at(file, s)),
-            }
-        }
+        Read::Absent => read_parts(file, parts, address),
     }
 }
 

@@ -3,7 +3,7 @@
 use borrow.Author.Needs.{needs}
 use mathlib.Core.Path.{_≡_, _∙_}
 use denote.Ref.{now}
-use Rattle.capture.proofs.Searches.{kept-bytes, alone}
+use Rattle.capture.proofs.Searches.{alone}
 use Rattle.capture.proofs.read_front.Statement.{statement}
 use Rattle.capture.proofs.read_front.Tie as tie
 
