@@ -1,6 +1,6 @@
-// The question, the batch and the audit, each over a raw capture and over a core file, the list of a core file's banks and the ledger's line
-// as calls on numbers, structs of numbers and slices, for programs in C and Rust.
-// include/humpelkaas.h declares them for C.
+// The batch and the audit, each over a raw capture and over a core file, the question over a core file, the list of its banks and the
+// ledger's line as calls on numbers, structs of numbers and slices, for programs in C and Rust; and all answers in numbers.
+// The question over a raw capture is in `exported_question`. include/humpelkaas.h declares all of them for C.
 use access::Access;
 use answers::Answer;
 use answers::Refusal;
@@ -205,7 +205,7 @@ fn refused(number: u64, item: u64) -> Words
     }
 }
 
-fn in_words(a: Answer) -> Words
+pub fn in_words(a: Answer) -> Words
     ensures { λ r. ⌜ r ≡ Numbers.words a ⌝ }
 {
     let number = answers::number(a);
@@ -260,23 +260,7 @@ fn in_words(a: Answer) -> Words
     }
 }
 
-// The question. A slice is a pointer and a length: of the capture's bytes, and of the log's words.
-#[no_mangle]
-pub extern "C" fn humpelkaas_translate(
-    bytes: &[u8],
-    base: u64,
-    r: El2,
-    g: El1,
-    a: Access,
-    log: &mut [u64],
-) -> Words
-    ensures answered { λ w. ⌜ w ≡ Numbers.words (ask (raw base) (now (bytes .entry)) r g a (now (log .entry)) .answer) ⌝ }
-    ensures logged { λ w. ⌜ now (log .exit) ≡ ask (raw base) (now (bytes .entry)) r g a (now (log .entry)) .log ⌝ }
-{
-    in_words(question::translate(bytes, base, r, g, a, log))
-}
-
-// The question over a core file, by its bytes.
+// The question over a core file, by its bytes. A slice is a pointer and a length: of bytes, and of the log's words.
 #[no_mangle]
 pub extern "C" fn humpelkaas_core_translate(
     file: &[u8],

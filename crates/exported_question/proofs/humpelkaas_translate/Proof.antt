@@ -1,8 +1,8 @@
 -- `humpelkaas_translate` meets its contract, by those of the question and of its words.
 -- Assumes nothing.
 use borrow.Author.Needs.{needs}
-use Rattle.exported.proofs.humpelkaas_translate.Statement.{statement}
-use Rattle.exported.proofs.humpelkaas_translate.Tie as tie
+use Rattle.exported_question.proofs.humpelkaas_translate.Statement.{statement}
+use Rattle.exported_question.proofs.humpelkaas_translate.Tie as tie
 
 returns : tie.Need-returns
 returns c =
