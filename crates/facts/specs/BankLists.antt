@@ -81,12 +81,12 @@ list-damaged = refl
 abbrev pub lacking : List Lent
 lacking = lent 63 64 64 64 ∷ lent 64 63 64 64 ∷ lent 64 64 63 64 ∷ lent 64 64 64 63 ∷ []
 
--- 02, §1: each list is to have 64 words, however many banks there are
+-- each list is to have 64 words, however many banks there are. Not in 02: docs/DECISIONS.md, The list of banks
 list-lacking : map (listed (cutTo 16)) lacking ≡ map (untouched ShortLog) lacking
 unfolding listing
 list-lacking = refl
 
--- 02, §1: the numbers 17 and 10; 17 where both grounds hold
+-- the numbers: 17 (02, §1), 10 for a list that is too short (not in 02, as above), and 17 where both grounds hold
 list-numbers : map (λ t. banksNumber (t .answer)) (listed damaged enough ∷ listed (cutTo 16) (lent 64 64 64 63) ∷ listed damaged (lent 63 64 64 64) ∷ [])
     ≡ 17 ∷ 10 ∷ 17 ∷ []
 unfolding listing
