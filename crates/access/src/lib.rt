@@ -41,7 +41,11 @@ pub fn at_el0(a: Access) -> bool
 fn listed_size(size: u64) -> bool
     ensures { λ r. ⌜ r ≡ Accesses.listedSize size ⌝ }
 {
-    (size == 1) | (size == 2) | (size == 4) | (size == 8) | (size == 16)
+    match size {
+        1 => true,
+        2 | 4 | 8 | 16 => true,
+        _ => false,
+    }
 }
 
 // The numbers of a question are of those that it may hold.
@@ -51,18 +55,12 @@ pub fn listed(kind: u64, el: u64, size: u64) -> bool
     (kind <= 2) & (el <= 1) & listed_size(size)
 }
 
-// What is left of x by a listed size. Each size has its own arm: a division by an unknown number costs more than all the rest.
+// What is left of x by a listed size, by a mask: each is a power of 2, and a division costs more than all the rest.
 fn remainder(x: u64, n: u64) -> u64
     requires { ⌜ Accesses.listedSize n ≡ true ⌝ }
     ensures { λ r. ⌜ r ≡ x % n ⌝ }
 {
-    match n {
-        2 => x % 2,
-        4 => x % 4,
-        8 => x % 8,
-        16 => x % 16,
-        _ => 0,
-    }
+    x & (n - 1)
 }
 
 // A data access that is not a multiple of its size.
