@@ -1,5 +1,4 @@
 // The access to each address of a list, with one kind, EL and size. Registers are decoded and stages prepared once.
-// The question and the batch both come here: so the access has one caller, and all of it becomes one loop when it is compiled.
 use access::Access;
 use capture::Front;
 use registers::El1;
@@ -12,9 +11,9 @@ use walk::end::End;
 use walk::end::Ending;
 ghost use mathlib.Core.Path.{_≡_};
 ghost use mathlib.Core.Bool.{true};
-ghost use Prim.Native.Nat.{ℕ, _+_, _≤_, _<_, _^_};
-ghost use lib.ListN.{length, getD};
-ghost use Rattle.bits.specs.Bits.{pick, bit};
+ghost use Prim.Native.Nat.{_≤_};
+ghost use lib.ListN.{length};
+ghost use Rattle.bits.specs.Bits.{pick};
 ghost use Rattle.access.specs.Access.{listedSize};
 ghost use Rattle.capture.specs.Calls.{captured, Held};
 ghost use Rattle.walk.specs.Ends.{passed};
@@ -31,19 +30,8 @@ fn output_of(e: End) -> u64
     if end::passed(ending) { address } else { 0 }
 }
 
-// Whether a list may ask for a VA range, the upper one or the lower: a list of one address asks for its own alone.
-fn wanted(addresses: &[u64], upper: bool) -> bool
-    ensures { λ r. ⌜ ((i : ℕ) → i < length (now (addresses .entry)) → bit (getD (now (addresses .entry)) i 0) 55 ≡ upper → r ≡ true) ⌝ }
-{
-    if addresses.len() == 1 {
-        let set = bits::bit(addresses[0], 55);
-        if upper { set } else { !set }
-    } else {
-        true
-    }
-}
-
-// Answers each address: the number of its answer, and its output. Gives how the last access ended.
+// Answers each address: the number of its answer, and its output. Gives how the last access ended: where nothing is asked of an end but
+// its number and its output, the compiler makes all ways to end an access into one, and the loop slower.
 pub fn each(
     file: &[u8],
     front: Front,
@@ -61,7 +49,7 @@ pub fn each(
     requires { ⌜ (settings r g ≡ 0) × (listedSize size ≡ true) × Held front (now parts) (now file) × (24 ≤ length (now log)) × (length (now outputs) ≡ length (now addresses)) × (length (now numbers) ≡ length (now addresses)) ⌝ }
     ensures { λ last. ⌜ Each (captured front (now (parts .entry)) (now (file .entry))) (stage1 r g) (stage2 r) (λ x. record { address = x; kind = kind; el = el; size = size }) (now (addresses .entry)) (now (log .entry)) last (now (outputs .exit)) (now (numbers .exit)) (now (log .exit)) ⌝ }
 {
-    let p = regime::prepared1(r, g, wanted(addresses, false), wanted(addresses, true));
+    let p = regime::prepared1(r, g);
     let q = regime::prepared2(r);
     let mut last = Arrival {
         by: By::First,

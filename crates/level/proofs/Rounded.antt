@@ -22,8 +22,11 @@ module _ (x t : ℕ) (some : 0 < t) where
   pub no-room : 0 < x → t * (taken - 1) < x
   no-room h = let few : taken * t < x + t = omega (arith, div-mul-le-self (x + (t - 1)) t) in omega (arith, one-fewer t x taken h few, mul-comm (taken - 1) t)
 
+  pub more-than : (m : ℕ) → m * t < x → m < taken
+  more-than m h = let p : suc m * t ≤ x + (t - 1) = omega (arith, suc-mul m t) in le-div-iff-mul-le some .1 p
+
   pub at-least : 0 < x → 1 ≤ taken
-  at-least h = let p : 1 * t ≤ x + (t - 1) = omega arith in le-div-iff-mul-le some .1 p
+  at-least h = more-than 0 (omega arith)
 
   pub at-most : (m : ℕ) → x ≤ m * t → taken ≤ m
   at-most m h = let p : x + (t - 1) < suc m * t = omega (arith, suc-mul m t) in omega (arith, div-lt-iff-lt-mul some .1 p)

@@ -1,6 +1,6 @@
 // Sizes and start levels (01, Walk). A start level is signed: registers can ask for one below level 0.
 ghost use mathlib.Core.Path.{_≡_};
-ghost use Prim.Native.Nat.{ℕ, _+_, _-_, _/_, _%_, _≤_};
+ghost use Prim.Native.Nat.{ℕ, _+_, _-_, _*_, _%_, _≤_};
 ghost use Rattle.registers.specs.Vtcr as VtcrFields;
 ghost use Rattle.level.specs.Granule.{Granular, strideOf, geometryOf};
 ghost use Rattle.level.specs.Level as Level;
@@ -39,21 +39,23 @@ pub fn start2(k: Granule, vtcr: Vtcr) -> i64
     (2 + k.first) as i64 - vtcr.sl0() as i64
 }
 
-// The levels below stage 1's start level, by a size field of six bits: one fewer than the strides. No output size counts.
+// The levels below stage 1's start level, by a size field of six bits: one fewer than the strides that the input bits above the granule
+// take, rounded up. Four strides are enough for an accepted size, and comparing costs less than dividing. No output size counts.
 pub fn below_start1(k: Granule, tnsz: u64) -> u64
-    requires { ⌜ Granular k ⌝ }
-    ensures { λ r. ⌜ ((output : ℕ) → r ≡ Level.levelsBelow (Level.start1 (geometryOf k (Level.inputSize (tnsz % 64)) output))) × (r ≤ 8) ⌝ }
+    requires { ⌜ Granular k × (64 - tnsz % 64 ≤ k .log + 4 * strideOf k) ⌝ }
+    ensures { λ r. ⌜ ((output : ℕ) → r ≡ Level.levelsBelow (Level.start1 (geometryOf k (Level.inputSize (tnsz % 64)) output))) × (r ≤ 3) ⌝ }
 {
-    less(strides(k, 64 - tnsz % 64), 1)
-}
-
-// The strides that the input bits above the granule take, rounded up.
-fn strides(k: Granule, size: u64) -> u64
-    requires { ⌜ Granular k × (size ≤ 64) ⌝ }
-    ensures { λ r. ⌜ r ≡ (size - k .log + (strideOf k - 1)) / strideOf k ⌝ }
-{
+    let size = 64 - tnsz % 64;
     let stride = k.log - 3;
-    (less(size, k.log) + (stride - 1)) / stride
+    if size <= k.log + stride {
+        0
+    } else if size <= k.log + 2 * stride {
+        1
+    } else if size <= k.log + 3 * stride {
+        2
+    } else {
+        3
+    }
 }
 
 // The bits of stage 2's root index, below 1 where the start level is too high for the size. No output size counts.

@@ -15,11 +15,20 @@ use Rattle.level.specs.Granule.{strideOf, geometryOf, Granular}
 use Rattle.level.specs.Level.{start1, sizeCheck, levelsBelow}
 use Rattle.level.proofs.Granules.{tg0-granular}
 use Rattle.regime.specs.Roots.{granule2, startLevel2, geometry2, tableOf, rangeOf}
+use Rattle.registers.specs.declared.El1.{El1}
 use Rattle.registers.specs.declared.El2.{El2}
-use Rattle.regime.specs.Calls.{Sized}
+use Rattle.settings.specs.Settings.{settings}
+use Rattle.regime.specs.declared.Half.{Half}
+use Rattle.regime.specs.Calls.{Sized, Settled, rangeBy, withStarts, ranged1}
+use Rattle.regime.proofs.Settings.{pamax-small}
 use Rattle.regime.proofs.Roots.{start1-is, start2-most, not-before, start2-bits}
-use Rattle.walk.specs.Calls.{Small}
-use Rattle.stages.specs.Ranges.{Narrow, limited, disabled}
+use Rattle.walk.specs.Calls.{Small, Starts}
+use Rattle.walk.specs.declared.start.Start.{Start}
+use Rattle.walk.proofs.Ends.{starts-root}
+use Rattle.stages.specs.Calls.{Sound1, stage1Of}
+use Rattle.stages.specs.Ranges.{boundsOf, Narrow, limited, disabled}
+use Rattle.stages.specs.declared.stage1.VaRange.{VaRange}
+use Rattle.stages.specs.declared.stage1.Prepared1.{Prepared1}
 use Rattle.descriptor.proofs.Masks.{upper-small}
 
 small-table : (k : Granule) (s output n register : ℕ) → Granular k → n ≤ 3 → k .log + strideOf k * n < 48 → s - (k .log + strideOf k * n) ≤ 17 → Small (tableOf (geometryOf k s output) n register)
@@ -66,3 +75,26 @@ small2 r some few =
     let low : 3 - p .0 ≤ 3 - k .first = omega (arith, p .2) in
     let bits = start2-bits (geometry2 r) (strideOf k + 4) (p .0) (start2-most r (p .0) (p .1)) (rw (p .1) at few) in
     small-from k _ _ (r .vttbr) _ (p .0) g (p .1) (omega (arith, g .shift, mul-le-mul-left (strideOf k) low)) (omega (arith, bits, g .most))
+
+-- ---- stage 1 in words
+
+pub range-narrow : (output : ℕ) (h : Half) → Settled h → Narrow (rangeBy output h)
+range-narrow output h s = narrow1 _ _ _ (s .size)
+
+module _ (r : El2) (g : El1) (accepted : settings r g ≡ 0) (l u : VaRange) (low : Narrow l) (high : Narrow u)
+    (lower upper : Start) (from-low : Starts lower (l .root)) (from-high : Starts upper (u .root)) where
+  abbrev words : Prepared1
+  words = withStarts r g (l .inputsize) lower (u .inputsize) upper
+
+  pub words-are : stage1Of words ≡ ranged1 l u r g
+  words-are = rw (starts-root lower (l .root) from-low, starts-root upper (u .root) from-high)
+
+  pub words-sound : Sound1 words
+  unfolding boundsOf
+  words-sound =
+      record {
+        bounds = refl;
+        pamax = pamax-small r g accepted;
+        lower = λ on. rw (starts-root lower (l .root) from-low) (from-low, low);
+        upper = λ on. rw (starts-root upper (u .root) from-high) (from-high, high);
+      }

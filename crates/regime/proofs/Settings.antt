@@ -3,6 +3,7 @@
 use mathlib.Core.Path.{_≡_, refl, sym, _∙_}
 use mathlib.Core.Bool.{Bool, true, false, not, _&&_, _||_, true≢false, false≢true}
 use Prim.Native.Nat.{ℕ, _≤_, _<_}
+use native.Mathlib.Nat.{mod-lt}
 use native.Mathlib.Omega.{arith}
 use lib.Dec.{leb, eqb}
 use borrow.Author.Tests.{leb-true, eqb-true}
@@ -12,7 +13,8 @@ use Rattle.registers.specs.Tcr
 use Rattle.settings.specs.Settings.{stage1On, implies, listedPamax, listedSizeField, items, settings}
 use Rattle.settings.proofs.Items.{holdsAt, numbered, item-holds}
 use Rattle.level.specs.Level.{inputSize}
-use Rattle.regime.specs.Calls.{Sized, leftOut}
+use Rattle.level.proofs.Granules.{tg0-granular, tg1-granular}
+use Rattle.regime.specs.Calls.{Sized, leftOut, lowerHalf, upperHalf, halfOf, Settled}
 use Rattle.registers.specs.declared.El1.{El1}
 use Rattle.registers.specs.declared.El2.{El2}
 
@@ -37,20 +39,34 @@ module _ (r : El2) (g : El1) (accepted : settings r g ≡ 0) (on : stage1On r g 
   unfolding settings holdsAt numbered pick
   upper-sized epd = sized _ (asked _ _ _ _ (item-holds (items r g) refl accepted 7) on epd)
 
--- ---- of a VA range that is wanted
+-- ---- of a VA range that is not left out
 
-kept : (on wanted epd : Bool) → leftOut (on && wanted) epd ≡ false → (on ≡ true) × (epd ≡ false)
+kept : (on epd : Bool) → leftOut on epd ≡ false → (on ≡ true) × (epd ≡ false)
 unfolding pick
-kept true true epd e = (refl, e)
-kept true false epd e = absurd (true≢false e)
-kept false wanted epd e = absurd (true≢false e)
+kept true epd e = (refl, e)
+kept false epd e = absurd (true≢false e)
 
-module _ (r : El2) (g : El1) (accepted : settings r g ≡ 0) (wanted : Bool) {on : Bool} (is : on ≡ stage1On r g) where
-  pub lower-kept : leftOut (on && wanted) (Tcr.epd0 (g .tcr)) ≡ false → Sized (inputSize (Tcr.t0sz (g .tcr)))
-  lower-kept e = let k = kept on wanted _ e in lower-sized r g accepted (sym is ∙ k .0) (k .1)
+module _ (r : El2) (g : El1) (accepted : settings r g ≡ 0) {on : Bool} (is : on ≡ stage1On r g) where
+  pub lower-settled : Settled (lowerHalf on g)
+  lower-settled =
+      record {
+        granule = tg0-granular _;
+        field = mod-lt _ (omega arith);
+        size = λ e. let k = kept on _ e in lower-sized r g accepted (sym is ∙ k .0) (k .1);
+      }
 
-  pub upper-kept : leftOut (on && wanted) (Tcr.epd1 (g .tcr)) ≡ false → Sized (inputSize (Tcr.t1sz (g .tcr)))
-  upper-kept e = let k = kept on wanted _ e in upper-sized r g accepted (sym is ∙ k .0) (k .1)
+  pub upper-settled : Settled (upperHalf on g)
+  upper-settled =
+      record {
+        granule = tg1-granular _;
+        field = mod-lt _ (omega arith);
+        size = λ e. let k = kept on _ e in upper-sized r g accepted (sym is ∙ k .0) (k .1);
+      }
+
+  pub half-settled : (upper : Bool) → Settled (halfOf upper on g)
+  unfolding pick
+  half-settled true = upper-settled
+  half-settled false = lower-settled
 
 -- ---- PAMax
 

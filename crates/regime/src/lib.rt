@@ -1,19 +1,17 @@
 // The stages of a walk, as registers give them (01, Walk).
 ghost use mathlib.Core.Path.{_≡_};
 ghost use Prim.Native.Nat.{_+_, _≤_, _<_};
-ghost use mathlib.Core.Bool.{false, _&&_, _||_};
+ghost use mathlib.Core.Bool.{_&&_, _||_};
 ghost use lib.Dec.{leb};
 ghost use lib.IntN.{pos};
 ghost use lib.Signed.{ltZ};
 ghost use Rattle.walk.specs.Calls.{Small, Starts, Sound2, stage2Of};
 ghost use Rattle.stages.specs.Calls.{Sound1, stage1Of, memoryOf};
 ghost use Rattle.settings.specs.Settings.{settings};
-ghost use Rattle.level.specs.Granule.{tg0Granule, tg1Granule, strideOf, geometryOf, Granular};
-ghost use Rattle.level.specs.Level.{inputSize};
-ghost use Rattle.registers.specs.Tcr as TcrFields;
+ghost use Rattle.bits.specs.Bits.{bit};
+ghost use Rattle.level.specs.Granule.{strideOf, Granular};
 ghost use Rattle.regime.specs.Roots as Roots;
 ghost use Rattle.regime.specs.Calls as Calls;
-ghost use Rattle.regime.specs.Calls.{Sized};
 use descriptor::entry::Geometry;
 use descriptor::turn;
 use level::granule;
@@ -31,16 +29,15 @@ use walk::table::Table;
 
 // The root table at a base register, with n levels below it.
 fn table_of(geometry: Geometry, n: u64, register: u64) -> Table
-    requires { ⌜ (geometry .grainsize ≤ 16) × (geometry .stride ≤ 13) × (geometry .inputsize ≤ 64) × (n ≤ 8) ⌝ }
+    requires { ⌜ (geometry .inputsize ≤ 64) × (n ≤ 8) × Small (Roots.tableOf geometry n register) ⌝ }
     ensures { λ r. ⌜ r ≡ Roots.tableOf geometry n register ⌝ }
 {
     let width = level::less(geometry.inputsize, geometry.grainsize + geometry.stride * n);
-    let base = bits::upper(register, 3 + width);
     Table {
         geometry,
         levels: n + 1,
         bits: width,
-        base,
+        base: register & (0x1_0000_0000_0000 - (1 << (3 + width))),
     }
 }
 
@@ -49,7 +46,7 @@ fn start_from(geometry: Geometry, n: u64, register: u64) -> Start
     requires { ⌜ (geometry .inputsize ≤ 64) × (n ≤ 8) × Small (Roots.tableOf geometry n register) ⌝ }
     ensures { λ r. ⌜ Starts r (Roots.rootOf geometry n register) ⌝ }
 {
-    if bits::beyond(register, geometry.outputsize) {
+    if register & turn::above(geometry.outputsize) != 0 {
         return start::nowhere(Ending::AddressSize, 0);
     }
     start::start_at(table_of(geometry, n, register))
@@ -63,43 +60,54 @@ struct Half {
     ttbr: u64,
 }
 
-// A range that nobody asks for is left out as if it were disabled.
-fn left_out(wanted: bool, epd: bool) -> bool
-    ensures { λ r. ⌜ r ≡ Calls.leftOut wanted epd ⌝ }
+// With stage 1 off each range is left out as if it were disabled: no walk starts there.
+fn left_out(on: bool, epd: bool) -> bool
+    ensures { λ r. ⌜ r ≡ Calls.leftOut on epd ⌝ }
 {
-    if wanted { epd } else { true }
+    if on { epd } else { true }
 }
 
 // What TTBR0 translates.
-fn lower_half(g: El1, wanted: bool) -> Half
-    ensures { λ r. ⌜ (r .tnsz ≡ TcrFields.t0sz (g .tcr)) × (r .epd ≡ Calls.leftOut wanted (TcrFields.epd0 (g .tcr))) × (r .ttbr ≡ g .ttbr0) × (r .granule ≡ tg0Granule (TcrFields.tg0 (g .tcr))) ⌝ }
+fn lower_half(g: El1, on: bool) -> Half
+    ensures { λ h. ⌜ h ≡ Calls.lowerHalf on g ⌝ }
 {
     let tcr = g.tcr;
     Half {
         granule: granule::by_tg0(tcr.tg0()),
         tnsz: tcr.t0sz(),
-        epd: left_out(wanted, tcr.epd0()),
+        epd: left_out(on, tcr.epd0()),
         ttbr: g.ttbr0,
     }
 }
 
 // What TTBR1 translates.
-fn upper_half(g: El1, wanted: bool) -> Half
-    ensures { λ r. ⌜ (r .tnsz ≡ TcrFields.t1sz (g .tcr)) × (r .epd ≡ Calls.leftOut wanted (TcrFields.epd1 (g .tcr))) × (r .ttbr ≡ g .ttbr1) × (r .granule ≡ tg1Granule (TcrFields.tg1 (g .tcr))) ⌝ }
+fn upper_half(g: El1, on: bool) -> Half
+    ensures { λ h. ⌜ h ≡ Calls.upperHalf on g ⌝ }
 {
     let tcr = g.tcr;
     Half {
         granule: granule::by_tg1(tcr.tg1()),
         tnsz: tcr.t1sz(),
-        epd: left_out(wanted, tcr.epd1()),
+        epd: left_out(on, tcr.epd1()),
         ttbr: g.ttbr1,
+    }
+}
+
+// What translates an address: bit 55 tells.
+fn half_at(g: El1, on: bool, address: u64) -> Half
+    ensures { λ h. ⌜ h ≡ Calls.halfOf (bit address 55) on g ⌝ }
+{
+    if bits::bit(address, 55) {
+        upper_half(g, on)
+    } else {
+        lower_half(g, on)
     }
 }
 
 // The start of a VA range.
 fn start1(output: u64, h: Half) -> Start
-    requires { ⌜ Granular (h .granule) × (h .tnsz < 64) × (h .epd ≡ false → Sized (inputSize (h .tnsz))) ⌝ }
-    ensures { λ r. ⌜ Starts r (Roots.rangeOf (geometryOf (h .granule) (inputSize (h .tnsz)) output) (h .epd) (h .ttbr) .root) ⌝ }
+    requires { ⌜ Calls.Settled h ⌝ }
+    ensures { λ r. ⌜ Starts r (Calls.rangeBy output h .root) ⌝ }
 {
     let k = h.granule;
     let tnsz = h.tnsz;
@@ -110,34 +118,65 @@ fn start1(output: u64, h: Half) -> Start
     start_from(granule::geometry(k, 64 - tnsz, output), n, h.ttbr)
 }
 
-// Stage 1 for walks, with the VA ranges that are wanted. With stage 1 off there is no walk.
-pub fn prepared1(r: El2, g: El1, lower: bool, upper: bool) -> Prepared1
-    requires { ⌜ settings r g ≡ 0 ⌝ }
-    ensures { λ p. ⌜ (stage1Of p ≡ Calls.narrowed1 lower upper r g) × Sound1 p ⌝ }
+// Stage 1's output size.
+fn output1(r: El2, g: El1) -> u64
+    ensures { λ n. ⌜ n ≡ Calls.output1 r g ⌝ }
 {
-    let on = settings::stage1_on(r, g);
+    let tcr = g.tcr;
+    level::output_size(r.pamax, tcr.ips())
+}
+
+// Stage 1 for walks, by the input sizes and the starts of its VA ranges.
+fn with_starts(r: El2, g: El1, size0: u64, lower: Start, size1: u64, upper: Start) -> Prepared1
+    ensures { λ p. ⌜ p ≡ Calls.withStarts r g size0 lower size1 upper ⌝ }
+{
     let hcr = r.hcr;
     let tcr = g.tcr;
     let sctlr = g.sctlr;
-    let output = level::output_size(r.pamax, tcr.ips());
-    let low = lower_half(g, on & lower);
-    let high = upper_half(g, on & upper);
-    let size0 = 64 - low.tnsz;
-    let size1 = 64 - high.tnsz;
     Prepared1 {
-        on,
+        on: settings::stage1_on(r, g),
         pamax: r.pamax,
         dc: hcr.dc(),
         bounds: range::bounds_of(tcr.tbi0(), tcr.tbi1(), size0, size1, r.pamax),
         size0,
         size1,
-        lower: start1(output, low),
-        upper: start1(output, high),
+        lower,
+        upper,
         mair: g.mair,
         c: sctlr.c(),
         i: sctlr.i(),
         wxn: sctlr.wxn(),
     }
+}
+
+// Stage 1 for walks of any address. With stage 1 off there is no walk.
+pub fn prepared1(r: El2, g: El1) -> Prepared1
+    requires { ⌜ settings r g ≡ 0 ⌝ }
+    ensures { λ p. ⌜ (stage1Of p ≡ Calls.narrowed1 r g) × Sound1 p ⌝ }
+{
+    let on = settings::stage1_on(r, g);
+    let output = output1(r, g);
+    let low = lower_half(g, on);
+    let high = upper_half(g, on);
+    with_starts(
+        r,
+        g,
+        64 - low.tnsz,
+        start1(output, low),
+        64 - high.tnsz,
+        start1(output, high),
+    )
+}
+
+// The same for one address alone: its VA range stands in the place of both, and the other is not worked out.
+pub fn prepared1_at(r: El2, g: El1, address: u64) -> Prepared1
+    requires { ⌜ settings r g ≡ 0 ⌝ }
+    ensures { λ p. ⌜ (stage1Of p ≡ Calls.sided1 (bit address 55) r g) × Sound1 p ⌝ }
+{
+    let half = half_at(g, settings::stage1_on(r, g), address);
+    let size = 64 - half.tnsz;
+    let start = start1(output1(r, g), half);
+    with_starts(r, g, size, start, size, start)
 }
 
 // Stage 2's granule.

@@ -12,7 +12,7 @@ use Rattle.stages.specs.Stages.{access}
 use Rattle.stages.specs.Calls.{arrived, stage1Of}
 use Rattle.stages.specs.declared.both.Arrival.{Arrival}
 use Rattle.regime.specs.Roots.{stage1, stage2}
-use Rattle.regime.proofs.Narrowed.{access-narrowed}
+use Rattle.regime.proofs.Narrowed.{access-narrowed, arrived-ranged}
 use Rattle.answers.specs.Answers.{number}
 use Rattle.answers.specs.Entries.{answerOf, outputOf}
 use Rattle.answers.proofs.Entries.{ran-number, ran-output}
@@ -36,23 +36,23 @@ abbrev μ-loop : tie.MeasureT-loop
 μ-loop file front parts kind el size addresses outputs₀ numbers₀ log₀ p q last₀ i₀ outputs numbers log last i = length addresses - i
 
 prepared1-requires : tie.Need-prepared1-requires Inv-loop μ-loop
-prepared1-requires c κs = c .before .before .before .before .before .before .before .before .pre .0
+prepared1-requires c κs = c .before .before .before .before .before .before .pre .0
 
 access-requires : tie.Need-access-requires Inv-loop μ-loop
 access-requires c κs =
     let l = c .before .before .before in
-    let p = l .before .before .before .before .before .before .before .before .before .before .before .before .pre in
+    let p = l .before .before .before .before .before .before .before .before .before .before .pre in
     (l .before .before .before .prepared1 .ensures .1, l .before .before .prepared2 .ensures .1, p .1, p .2, omega (arith, l .loop .inv .2 .same, p .3))
 
 slice-write-outputs : tie.Need-slice-write-outputs Inv-loop μ-loop
 slice-write-outputs c =
     let l = c .before .before .before .before .before .before .before .before in
-    omega (arith, c .before .before .before .before .before .before .before .loop-test .taken, l .loop .inv .0 .same, l .before .before .before .before .before .before .before .before .before .before .before .before .pre .4)
+    omega (arith, c .before .before .before .before .before .before .before .loop-test .taken, l .loop .inv .0 .same, l .before .before .before .before .before .before .before .before .before .before .pre .4)
 
 slice-write-numbers : tie.Need-slice-write-numbers Inv-loop μ-loop
 slice-write-numbers c =
     let l = c .before .before .before .before .before .before .before .before .before in
-    omega (arith, c .before .before .before .before .before .before .before .before .loop-test .taken, l .loop .inv .1 .same, l .before .before .before .before .before .before .before .before .before .before .before .before .pre .5)
+    omega (arith, c .before .before .before .before .before .before .before .before .loop-test .taken, l .loop .inv .1 .same, l .before .before .before .before .before .before .before .before .before .before .pre .5)
 
 loop-again : tie.Need-loop-again Inv-loop μ-loop
 loop-again c =
@@ -64,30 +64,27 @@ loop-again c =
       runs-next _ _ _ _ _ _ (l .loop .inv .2) (omega (arith, less)) ran,
     )
 
--- the access to each address of the list is that by the stages with what is wanted of them
+-- the access to each address of the list is that by the stages as they were prepared
 same : (c : tie.After-loop Inv-loop μ-loop) →
-    let z = c .before .before .before .before .before .before .before .before .before .before .before .before .before .args in
+    let z = c .before .before .before .before .before .before .before .before .before .before .before .args in
     (i : ℕ) → i < length (z .addresses .now) →
     (let a = to (z .kind) (z .el) (z .size) (getD (z .addresses .now) i 0) in
     access (stage1Of (c .before .before .before .before .prepared1 .result)) (stage2Of (c .before .before .before .prepared2 .result)) a ≡ access (stage1 (z .r) (z .g)) (stage2 (z .r)) a)
 same c i less =
     let q = c .before .before .before in
-    let w = q .before .before in
-    let k = w .before .before .before .before .before in
-    rw (q .before .prepared1 .ensures .0, q .prepared2 .ensures .0)
-    (access-narrowed _ _ (k .before .before .before .pre .0) _ _ _ (omega (arith, k .shared-slice-known3 .given i)) ((w .wanted2 .ensures i less, w .before .wanted .ensures i less)))
+    let k = q .before .before .before .before .before in
+    rw (q .before .prepared1 .ensures .0, q .prepared2 .ensures .0) (access-narrowed _ _ (k .before .before .before .pre .0) _ (omega (arith, k .shared-slice-known3 .given i)))
 
 -- what is left out of the stages shows in no end
 told-alike : (c : tie.After-loop Inv-loop μ-loop) (a : Access) (last : Arrival) →
-    let z = c .before .before .before .before .before .before .before .before .before .before .before .before .before .args in
+    let z = c .before .before .before .before .before .before .before .before .before .before .before .args in
     arrived (stage1Of (c .before .before .before .before .prepared1 .result)) (stage2Of (c .before .before .before .prepared2 .result)) a last ≡ arrived (stage1 (z .r) (z .g)) (stage2 (z .r)) a last
-unfolding arrived stage1 stage2
-told-alike c a last = rw (c .before .before .before .before .prepared1 .ensures .0, c .before .before .before .prepared2 .ensures .0)
+told-alike c a last = rw (c .before .before .before .before .prepared1 .ensures .0, c .before .before .before .prepared2 .ensures .0) (arrived-ranged _ _ _ _ a last)
 
 returns : tie.Need-returns Inv-loop μ-loop
 returns c =
     let l = c .before in
-    let k = l .before .before .before .before .before .before .before .before .before .before .before .before in
+    let k = l .before .before .before .before .before .before .before .before .before .before in
     let z = k .args in
     let p = k .pre in
     let m = captured (z .front) (z .parts .now) (z .file .now) in
@@ -105,22 +102,20 @@ each-spec =
     (tie.spec
     Inv-loop
     μ-loop
-    (λ c κs. search needs)
-    (λ c κs. search needs)
     prepared1-requires
     (λ c κs. search needs)
     (λ c κs. search needs)
     (λ c. (filling-start _ _ _, filling-start _ _ _, runs-start _ _ _ _ _ _ _))
-    (λ c. scaled-fits _ _ _ (c .loop-test .taken) (c .before .before .before .before .before .before .before .before .before .before .before .before .before .good .1 .1 .1 .1 .1 .1 .1 .1 .0 .1))
+    (λ c. scaled-fits _ _ _ (c .loop-test .taken) (c .before .before .before .before .before .before .before .before .before .before .before .good .1 .1 .1 .1 .1 .1 .1 .1 .0 .1))
     (λ c. search needs)
     access-requires
     (λ c κs. search needs)
-    (λ c. scaled-fits _ _ _ (c .before .before .before .before .before .before .before .loop-test .taken) (c .before .before .before .before .before .before .before .before .before .before .before .before .before .before .before .before .before .before .before .before .good .1 .1 .1 .1 .1 .1 .1 .1 .0 .1))
+    (λ c. scaled-fits _ _ _ (c .before .before .before .before .before .before .before .loop-test .taken) (c .before .before .before .before .before .before .before .before .before .before .before .before .before .before .before .before .before .before .good .1 .1 .1 .1 .1 .1 .1 .1 .0 .1))
     slice-write-outputs
     (λ c κs. search needs)
-    (λ c. scaled-fits _ _ _ (c .before .before .before .before .before .before .before .before .loop-test .taken) (c .before .before .before .before .before .before .before .before .before .before .before .before .before .before .before .before .before .before .before .before .before .good .1 .1 .1 .1 .1 .1 .1 .1 .0 .1))
+    (λ c. scaled-fits _ _ _ (c .before .before .before .before .before .before .before .before .loop-test .taken) (c .before .before .before .before .before .before .before .before .before .before .before .before .before .before .before .before .before .before .before .good .1 .1 .1 .1 .1 .1 .1 .1 .0 .1))
     slice-write-numbers
-    (λ c. record { fits = omega (arith, c .before .before .before .before .before .before .before .before .loop-test .taken, c .before .before .before .before .before .before .before .before .before .before .before .before .before .before .before .before .before .before .before .before .before .good .1 .1 .1 .1 .1 .1 .1 .1 .0 .0) })
+    (λ c. record { fits = omega (arith, c .before .before .before .before .before .before .before .before .loop-test .taken, c .before .before .before .before .before .before .before .before .before .before .before .before .before .before .before .before .before .before .before .good .1 .1 .1 .1 .1 .1 .1 .1 .0 .0) })
     (λ c. omega (arith, c .before .before .before .before .before .before .before .before .loop-test .taken))
     loop-again
     (λ c. c .before .loop .inv .0 .same)

@@ -1,23 +1,51 @@
--- `below_start1` meets its contract: there are at most six strides. Assumes nothing.
+-- `below_start1` meets its contract: the strides are one more than those that the size passes.
+-- Assumes nothing.
 use borrow.Author.Needs.{needs}
-use Prim.Native.Nat.{_+_, _-_, _/_, _%_, _≤_, _<_}
+use mathlib.Core.Path.{_≡_, _∙_}
+use Prim.Native.Nat.{ℕ, suc, _+_, _-_, _*_, _≤_, _<_}
 use native.Mathlib.Omega.{arith}
-use Rattle.level.specs.Granule.{strideOf}
-use Rattle.level.specs.Level.{start1}
+use Rattle.level.specs.Granule.{strideOf, geometryOf, Granular}
+use Rattle.level.specs.Level.{start1, levelsBelow}
+use Rattle.level.specs.declared.granule.Granule.{Granule}
 use Rattle.level.proofs.Signed.{below-four}
-use Rattle.level.proofs.Rounded.{at-most}
+use Rattle.level.proofs.Rounded.{taken, more-than, at-most}
 use Rattle.level.proofs.below_start1.Statement.{statement}
 use Rattle.level.proofs.below_start1.Tie as tie
 
-returns : tie.Need-returns
-unfolding start1
-returns c =
-    let z = c .before .before .args in
-    let g = c .before .before .pre in
-    let x = 64 - z .tnsz % 64 - z .k .log in
-    let some : 0 < strideOf (z .k) = omega (arith, g .least) in
-    let few : (x + (strideOf (z .k) - 1)) / strideOf (z .k) ≤ 6 = at-most x (strideOf (z .k)) some 6 (omega (arith, g .least)) in
-    (λ output. rw (c .less .ensures, c .before .strides .ensures) (below-four _ few), omega (arith, c .less .ensures, c .before .strides .ensures, few))
+module _ (k : Granule) (g : Granular k) (s : ℕ) where
+  some : 0 < strideOf k
+  some = omega (arith, g .least)
+
+  -- n strides and no more than one more
+  below : (n : ℕ) → n ≤ 3 → n ≤ taken (s - k .log) (strideOf k) some - 1 → s ≤ k .log + suc n * strideOf k → (output : ℕ) → n ≡ levelsBelow (start1 (geometryOf k s output))
+  unfolding start1
+  below n few least most output =
+      let c = taken (s - k .log) (strideOf k) some in
+      let high : c ≤ suc n = at-most (s - k .log) (strideOf k) some (suc n) (omega arith) in
+      let e : n ≡ c - 1 = omega arith in
+      e ∙ below-four c (omega arith)
+
+  passed : (n : ℕ) → k .log + n * strideOf k < s → n ≤ taken (s - k .log) (strideOf k) some - 1
+  passed n more = omega (arith, more-than (s - k .log) (strideOf k) some n (omega arith))
 
 pub below-start1-spec : {M : Type 1} → statement M
-below-start1-spec = tie.close (tie.spec (λ c. search needs) (λ c κs. (c .pre, search needs)) (λ c κs. tt) returns)
+below-start1-spec =
+    tie.close
+    (tie.spec
+    (λ c. search needs)
+    (λ c. search needs)
+    (λ c. search needs)
+    (λ c. search needs)
+    (λ c. search needs)
+    (λ c. search needs)
+    (λ c. search needs)
+    (λ c. let z = c .before .before .before in (below _ (z .pre .0) _ 0 (omega arith) (omega arith) (omega (arith, c .if1 .taken)), omega arith))
+    (λ c.
+    let z = c .before .before .before .before .before in
+    (below _ (z .pre .0) _ 1 (omega arith) (passed _ (z .pre .0) _ 1 (omega (arith, c .before .before .if1 .left))) (omega (arith, c .if2 .taken)), omega arith))
+    (λ c.
+    let z = c .before .before .before .before .before .before .before in
+    (below _ (z .pre .0) _ 2 (omega arith) (passed _ (z .pre .0) _ 2 (omega (arith, c .before .before .if2 .left))) (omega (arith, c .if3 .taken)), omega arith))
+    (λ c.
+    let z = c .before .before .before .before .before .before .before in
+    (below _ (z .pre .0) _ 3 (omega arith) (passed _ (z .pre .0) _ 3 (omega (arith, c .if3 .left))) (omega (arith, z .pre .1)), omega arith)))

@@ -1,5 +1,4 @@
 -- `lower_half` meets its contract, by those of what it calls. Assumes nothing.
-use mathlib.Core.Path.{refl}
 use Rattle.regime.proofs.lower_half.Statement.{statement}
 use Rattle.regime.proofs.lower_half.Tie as tie
 
@@ -10,4 +9,4 @@ lower-half-spec =
     (λ c κs. tt) (λ c κs. tt) (λ c κs. tt) (λ c κs. tt) (λ c κs. tt)
     (λ c.
     let k = c .before .before .before in
-    (c .before .before .t0sz .ensures, rw (← c .before .epd0 .ensures) (c .left-out .ensures), refl, rw (← k .before .tg0 .ensures) (k .by-tg0 .ensures))))
+    rw (c .left-out .ensures, c .before .epd0 .ensures, c .before .before .t0sz .ensures, k .by-tg0 .ensures, k .before .tg0 .ensures)))

@@ -1,96 +1,43 @@
 -- `prepared1` meets its contract, by those of what it calls.
 -- Assumes nothing.
 use borrow.Author.Needs.{needs}
-use mathlib.Core.Path.{_≡_}
-use mathlib.Core.Bool.{false}
-use Prim.Native.Nat.{ℕ}
+use mathlib.Core.Path.{_∙_}
 use native.Mathlib.Omega.{arith}
-use Rattle.descriptor.specs.declared.entry.Geometry.{Geometry}
-use Rattle.walk.proofs.Ends.{starts-root}
-use Rattle.stages.specs.Ranges.{boundsOf}
-use Rattle.level.specs.Granule.{geometryOf}
-use Rattle.level.specs.declared.granule.Granule.{Granule}
-use Rattle.level.specs.Level.{inputSize}
-use Rattle.level.proofs.Granules.{tg0-granular, tg1-granular}
-use Rattle.regime.specs.Roots.{rangeOf}
-use Rattle.regime.specs.Calls.{Sized}
-use Rattle.regime.proofs.Settings.{lower-kept, upper-kept, pamax-small}
-use Rattle.regime.proofs.Ready.{narrow1}
+use Rattle.regime.specs.Calls.{Settled}
+use Rattle.regime.proofs.Settings.{lower-settled, upper-settled}
+use Rattle.regime.proofs.Ready.{range-narrow, words-are, words-sound}
 use Rattle.regime.proofs.prepared1.Statement.{statement}
 use Rattle.regime.proofs.prepared1.Tie as tie
 
--- the size of a range that is not left out is accepted
-lower-size : (c : tie.After-upper-half) → c .before .lower-half .result .epd ≡ false → Sized (inputSize (c .before .lower-half .result .tnsz))
-lower-size c e =
-    let k = c .before .before .before .before .before .before .before in
-    let w = c .before .lower-half .ensures in
-    rw (w .0) (lower-kept _ _ (k .before .pre) _ (k .stage1-on .ensures) (rw (w .1) at e))
+low : (c : tie.After-upper-half) → Settled (c .before .lower-half .result)
+low c = let k = c .before .before .before in rw (c .before .lower-half .ensures) (lower-settled _ _ (k .before .pre) (k .stage1-on .ensures))
 
-upper-size : (c : tie.After-upper-half) → c .upper-half .result .epd ≡ false → Sized (inputSize (c .upper-half .result .tnsz))
-upper-size c e =
-    let k = c .before .before .before .before .before .before .before in
-    let w = c .upper-half .ensures in
-    rw (w .0) (upper-kept _ _ (k .before .pre) _ (k .stage1-on .ensures) (rw (w .1) at e))
-
-start1-requires : tie.Need-start1-requires
-start1-requires c κs =
-    let h = c .before .before .before .before .before .before in
-    (rw (h .before .lower-half .ensures .3) (tg0-granular _), omega (arith, h .before .lower-half .ensures .0), lower-size h)
-
-start1-requires-2 : tie.Need-start1-requires-2
-start1-requires-2 c κs =
-    let h = c .before .before .before .before .before .before .before in
-    (rw (h .upper-half .ensures .3) (tg1-granular _), omega (arith, h .upper-half .ensures .0), upper-size h)
+high : (c : tie.After-upper-half) → Settled (c .upper-half .result)
+high c = let k = c .before .before .before in rw (c .upper-half .ensures) (upper-settled _ _ (k .before .pre) (k .stage1-on .ensures))
 
 returns : tie.Need-returns
-unfolding boundsOf
 returns c =
-    let s = c .before .before .before in
-    let b = s .before .before in
-    let h = b .before .before .before .before .before .before in
-    let low = h .before .lower-half .result in
-    let high = h .upper-half .result in
-    let geometry : Granule → ℕ → Geometry = λ k tnsz. geometryOf k (inputSize tnsz) (h .before .before .output-size .result) in
-    let root0 = starts-root (s .before .start1 .result) (rangeOf (geometry (low .granule) (low .tnsz)) (low .epd) (low .ttbr) .root) (s .before .start1 .ensures) in
-    let root1 = starts-root (s .start12 .result) (rangeOf (geometry (high .granule) (high .tnsz)) (high .epd) (high .ttbr) .root) (s .start12 .ensures) in (
-      rw (
-        root0,
-        root1,
-        b .bounds-of .ensures,
-        b .before .tbi1 .ensures,
-        b .before .before .tbi0 .ensures,
-        b .before .before .before .dc .ensures,
-        c .wxn .ensures,
-        c .before .i .ensures,
-        c .before .before .c .ensures,
-        h .before .lower-half .ensures .0,
-        h .before .lower-half .ensures .1,
-        h .before .lower-half .ensures .2,
-        h .before .lower-half .ensures .3,
-        h .upper-half .ensures .0,
-        h .upper-half .ensures .1,
-        h .upper-half .ensures .2,
-        h .upper-half .ensures .3,
-        h .before .before .output-size .ensures,
-        h .before .before .before .ips .ensures,
-        h .before .before .before .before .before .before .before .stage1-on .ensures,
-      ),
-      record {
-        bounds = rw (b .bounds-of .ensures);
-        pamax = pamax-small _ _ (h .before .before .before .before .before .before .before .before .pre);
-        lower = λ on. (rw root0 (s .before .start1 .ensures), rw root0 (narrow1 (geometry (low .granule) (low .tnsz)) (low .epd) (low .ttbr) (lower-size h)));
-        upper = λ on. (rw root1 (s .start12 .ensures), rw root1 (narrow1 (geometry (high .granule) (high .tnsz)) (high .epd) (high .ttbr) (upper-size h)));
-      },
-    )
+    let h = c .before .before .before .before .before in
+    let k = h .before .before in
+    let narrow0 = range-narrow (k .output1 .result) _ (low h) in
+    let narrow1 = range-narrow (k .output1 .result) _ (high h) in
+    let start0 = c .before .before .before .start1 .ensures in
+    let start1 = c .before .start12 .ensures in
+    rw (c .with-starts .ensures)
+    ((
+      words-are _ _ (k .before .before .pre) _ _ narrow0 narrow1 _ _ start0 start1
+          ∙ rw (h .before .lower-half .ensures, h .upper-half .ensures, k .output1 .ensures, k .before .stage1-on .ensures),
+      words-sound _ _ (k .before .before .pre) _ _ narrow0 narrow1 _ _ start0 start1,
+    ))
 
 pub prepared1-spec : {M : Type 1} → statement M
 prepared1-spec =
     tie.close
     (tie.spec
-    (λ c κs. tt) (λ c κs. tt) (λ c κs. tt) (λ c κs. tt) (λ c κs. tt)
-    (λ c. search needs) (λ c. search needs)
     (λ c κs. tt) (λ c κs. tt) (λ c κs. tt) (λ c κs. tt)
-    start1-requires
-    start1-requires-2
-    (λ c κs. tt) (λ c κs. tt) (λ c κs. tt)
+    (λ c. omega (arith, low (c .before) .field))
+    (λ c κs. low (c .before))
+    (λ c. omega (arith, high (c .before .before .before) .field))
+    (λ c κs. high (c .before .before .before))
+    (λ c κs. tt)
     returns)

@@ -12,12 +12,18 @@ use Rattle.regime.proofs.Ready.{small1}
 use Rattle.regime.proofs.start1.Statement.{statement}
 use Rattle.regime.proofs.start1.Tie as tie
 
+below-start1-requires : tie.Need-below-start1-requires
+below-start1-requires c κs =
+    let h = c .before .before .pre in
+    let size = h .size (c .if1 .left) in
+    (h .granule, omega (arith, h .field, size .most, h .granule .least))
+
 -- the levels below the start level
 below : (c : tie.After-below-start1) →
     let a = c .before .before .before .args in c .below-start1 .result ≡ levelsBelow (start1 (geometryOf (a .h .granule) (64 - a .h .tnsz) (a .output)))
 below c =
     let k = c .before .before .before in
-    let whole : k .args .h .tnsz % 64 ≡ k .args .h .tnsz = omega (arith, k .pre .1) in
+    let whole : k .args .h .tnsz % 64 ≡ k .args .h .tnsz = omega (arith, k .pre .field) in
     rw whole at (c .below-start1 .ensures .0 (k .args .output))
 
 start-from-requires : tie.Need-start-from-requires
@@ -25,8 +31,8 @@ start-from-requires c κs =
     let e = c .before .before in
     let k = e .before .before in (
       rw (c .geometry .ensures) (omega arith),
-      c .before .below-start1 .ensures .1,
-      rw (c .geometry .ensures, below (c .before)) (small1 (k .args .h .granule) (64 - k .args .h .tnsz) (k .args .output) (k .args .h .ttbr) (k .pre .0) (k .pre .2 (e .if1 .left))),
+      omega (arith, c .before .below-start1 .ensures .1),
+      rw (c .geometry .ensures, below (c .before)) (small1 (k .args .h .granule) (64 - k .args .h .tnsz) (k .args .output) (k .args .h .ttbr) (k .pre .granule) (k .pre .size (e .if1 .left))),
     )
 
 pub start1-spec : {M : Type 1} → statement M
@@ -36,7 +42,7 @@ start1-spec =
     (tie.spec
     (λ c κs. tt)
     (λ c. rw (c .before .if1 .taken) (c .nowhere .ensures))
-    (λ c κs. c .before .before .pre .0)
+    below-start1-requires
     (λ c. search needs)
     (λ c κs. tt)
     start-from-requires

@@ -1,5 +1,4 @@
 -- `upper_half` meets its contract, by those of what it calls. Assumes nothing.
-use mathlib.Core.Path.{refl}
 use Rattle.regime.proofs.upper_half.Statement.{statement}
 use Rattle.regime.proofs.upper_half.Tie as tie
 
@@ -10,4 +9,4 @@ upper-half-spec =
     (λ c κs. tt) (λ c κs. tt) (λ c κs. tt) (λ c κs. tt) (λ c κs. tt)
     (λ c.
     let k = c .before .before .before in
-    (c .before .before .t1sz .ensures, rw (← c .before .epd1 .ensures) (c .left-out .ensures), refl, rw (← k .before .tg1 .ensures) (k .by-tg1 .ensures))))
+    rw (c .left-out .ensures, c .before .epd1 .ensures, c .before .before .t1sz .ensures, k .by-tg1 .ensures, k .before .tg1 .ensures)))
