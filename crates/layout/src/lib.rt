@@ -57,7 +57,8 @@ pub fn read_headers(file: &[u8], words: &mut [u64]) -> Said
     let n = elf::header_count(file);
     let at = elf::headers_at(file);
     let first = at as usize;
-    let count = elf::count_banks(file, first, n);
+    let banks = elf::count_banks(file, first, n);
+    let count = banks.count;
     if MOST_BANKS < count {
         return unreadable();
     }
