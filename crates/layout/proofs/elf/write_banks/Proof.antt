@@ -9,10 +9,6 @@ use lib.ListN.{length, length-set}
 use Rattle.layout.proofs.Banks.{Writing, writing-start, bank-fits, writing-bank, writing-other, writing-done}
 use Rattle.layout.proofs.elf.write_banks.Statement.{statement}
 use Rattle.layout.proofs.elf.write_banks.Tie as tie
-use Rattle.layout.proofs.elf.write_banks.Reads as reads
-use Rattle.layout.proofs.elf.write_banks.Lts as lts
-use Rattle.layout.proofs.elf.header_at.Reads as header-at-reads
-use Rattle.layout.proofs.elf.is_bank.Reads as is-bank-reads
 
 abbrev Inv-loop : tie.InvT-loop
 Inv-loop file at n words₀ k₀ i₀ words k i = Writing file at n words₀ words k i
@@ -21,9 +17,7 @@ abbrev μ-loop : tie.MeasureT-loop
 μ-loop file at n words₀ k₀ i₀ words k i = n - i
 
 -- at a header of a bank there is room for its words
-room :
-    (c : lts.Then1 (is-bank-reads.Asked, is-bank-reads.Learnt, header-at-reads.Asked, header-at-reads.Learnt) reads.Pre reads.Post Inv-loop μ-loop) →
-    let l = c .before .before .before .loop in l .k + 3 ≤ length (l .words)
+room : (c : tie.Then1 Inv-loop μ-loop) → let l = c .before .before .before .loop in l .k + 3 ≤ length (l .words)
 room c = bank-fits _ _ _ (c .before .before .before .loop .inv) (c .before .before .loop-test .taken) (sym (c .before .is-bank .ensures) ∙ c .if1 .taken)
 
 pub write-banks-spec : {M : Type 1} → statement M
