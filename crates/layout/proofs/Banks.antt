@@ -1,6 +1,6 @@
 -- The banks of program headers, one header after the other: what a header adds to those after it.
 -- Assumes nothing.
-use mathlib.Core.Path.{_≡_, refl, ap, _∙_}
+use mathlib.Core.Path.{_≡_, refl, sym, ap, _∙_}
 use mathlib.Core.Bool.{true, false}
 use mathlib.Core.List.{List, _∷_}
 use Prim.Native.Nat.{ℕ, suc, _+_, _-_, _*_, _≤_, _<_}
@@ -10,8 +10,8 @@ use lib.Seq.{sets}
 use Rattle.bits.specs.Bits.{pick}
 use Rattle.bits.proofs.Tests.{pick-true, pick-false}
 use Rattle.capture.specs.Capture.{Bank}
-use Rattle.layout.specs.Elf.{number, isBank, bankAt, banksFrom}
-use Rattle.layout.specs.Calls.{saidWords}
+use Rattle.layout.specs.Elf.{isBank, bankAt, banksFrom}
+use Rattle.layout.specs.Calls.{saidWords, Tallies}
 
 module _ (file : List ℕ) (at n : ℕ) where
   -- the place of a header
@@ -43,27 +43,54 @@ module _ (file : List ℕ) (at n : ℕ) where
 
   -- ---- how many there are
 
-  -- of the first i headers so many are banks
-  pub record Counting (count i : ℕ) : Type 0 where
+  -- of the first i headers so many are banks, and the last of those stands at a place
+  pub record Counting (count last i : ℕ) : Type 0 where
     pub within : i ≤ n
     pub few : count ≤ i
     pub sum : count + length (rest i) ≡ length (banksFrom n at file)
+    pub there : 0 < count → last + 56 ≤ length file
+    pub none : count ≡ 0 → banksFrom n at file ≡ rest i
+    pub sole : count ≡ 1 → banksFrom n at file ≡ bankAt last file ∷ rest i
 
-  pub counting-start : Counting 0 0
-  counting-start = record { within = omega arith; few = omega arith; sum = rw rest-first (omega arith) }
+  pub counting-start : (last : ℕ) → Counting 0 last 0
+  counting-start last =
+      record {
+        within = omega arith;
+        few = omega arith;
+        sum = rw rest-first (omega arith);
+        there = λ h. absurd (omega (arith, h));
+        none = λ z. sym rest-first;
+        sole = λ z. absurd (omega (arith, z));
+      }
 
-  module _ {count i : ℕ} (w : Counting count i) where
-    pub counting-bank : i < n → isBank (place i) file ≡ true → Counting (count + 1) (i + 1)
-    counting-bank less e =
-        record { within = omega arith; few = omega (arith, w .few); sum = omega (arith, w .sum, ap length (rest-bank i less e)) }
+  module _ {count last i : ℕ} (w : Counting count last i) (less : i < n) where
+    pub counting-bank : isBank (place i) file ≡ true → place i + 56 ≤ length file → Counting (count + 1) (place i) (i + 1)
+    counting-bank e inside =
+        record {
+          within = omega arith;
+          few = omega (arith, w .few);
+          sum = omega (arith, w .sum, ap length (rest-bank i less e));
+          there = λ h. inside;
+          none = λ z. absurd (omega (arith, z));
+          sole = λ z. w .none (omega (arith, z)) ∙ rest-bank i less e;
+        }
 
-    pub counting-other : i < n → isBank (place i) file ≡ false → Counting count (i + 1)
-    counting-other less e =
-        record { within = omega arith; few = omega (arith, w .few); sum = omega (arith, w .sum, ap length (rest-other i less e)) }
+    pub counting-other : isBank (place i) file ≡ false → Counting count last (i + 1)
+    counting-other e =
+        record {
+          within = omega arith;
+          few = omega (arith, w .few);
+          sum = omega (arith, w .sum, ap length (rest-other i less e));
+          there = w .there;
+          none = λ z. w .none z ∙ rest-other i less e;
+          sole = λ z. w .sole z ∙ ap (λ l. bankAt last file ∷ l) (rest-other i less e);
+        }
 
-    pub counting-done : n ≤ i → count ≡ length (banksFrom n at file)
-    unfolding banksFrom
-    counting-done over = let none : n - i ≡ 0 = omega arith in omega (arith, rw none at (w .sum))
+  pub counting-done : {count last i : ℕ} → Counting count last i → n ≤ i → Tallies file at n (record { count = count; last = last })
+  unfolding banksFrom
+  counting-done {i = i} w over =
+      let none : n - i ≡ 0 = omega arith in
+      record { count = omega (arith, rw none at (w .sum)); there = w .there; sole = λ z. rw none at (w .sole z) }
 
   -- ---- their words
 
@@ -81,20 +108,19 @@ module _ (file : List ℕ) (at n : ℕ) where
     pub bank-fits : i < n → isBank (place i) file ≡ true → k + 3 ≤ length words
     bank-fits less e = omega (arith, w .room, ap length (rest-bank i less e))
 
-    pub writing-bank : (a b c : ℕ) → i < n → isBank (place i) file ≡ true →
-        a ≡ number 8 (place i + 24) file → b ≡ number 8 (place i + 8) file → c ≡ number 8 (place i + 32) file →
-        Writing words₀ (set (set (set words k a) (k + 1) b) (k + 2) c) (k + 3) (i + 1)
+    pub writing-bank : (b : Bank) → i < n → isBank (place i) file ≡ true → b ≡ bankAt (place i) file →
+        Writing words₀ (set (set (set words k (b .address)) (k + 1) (b .offset)) (k + 2) (b .size)) (k + 3) (i + 1)
     unfolding saidWords
-    writing-bank a b c less e p q r =
+    writing-bank b less e p =
         let one : k + 1 ≡ suc k = omega arith in
         let two : k + 2 ≡ suc (suc k) = omega arith in
         let three : k + 3 ≡ suc (suc (suc k)) = omega arith in
-        let same : length (set (set (set words k a) (k + 1) b) (k + 2) c) ≡ length words = simp length-set in
+        let same : length (set (set (set words k (b .address)) (k + 1) (b .offset)) (k + 2) (b .size)) ≡ length words = simp length-set in
         record {
           within = omega arith;
           same = same ∙ w .same;
           room = omega (arith, same, w .room, ap length (rest-bank i less e));
-          left = rw (p, q, r, one, two, three) (rw (rest-bank i less e) at (w .left));
+          left = rw (p, one, two, three) (rw (rest-bank i less e) at (w .left));
         }
 
     pub writing-other : i < n → isBank (place i) file ≡ false → Writing words₀ words k (i + 1)

@@ -2,25 +2,30 @@
 -- Assumes nothing.
 use mathlib.Core.Path.{_≡_, sym, ap, fun-ext, _∙_}
 use mathlib.Core.Bool.{true, false, _&&_}
-use mathlib.Core.List.{List, _∷_}
+use mathlib.Core.List.{List, [], _∷_}
 use Prim.Native.Nat.{ℕ, _*_, _-_, _≤_}
 use native.Mathlib.Omega.{arith}
-use lib.Dec.{leb}
-use lib.ListN.{length, take}
-use borrow.Author.Tests.{leb-true}
+use lib.Dec.{leb, eqb}
+use lib.ListN.{length, take, length-map}
+use borrow.Author.Tests.{leb-true, eqb-true}
 use Rattle.bits.proofs.Tests.{and-left, and-right}
-use Rattle.capture.specs.Capture.{anyHigh, memory}
+use Rattle.capture.specs.Capture.{part, anyHigh, memory}
 use Rattle.capture.specs.Calls as Calls
 use Rattle.capture.specs.Calls.{ahead, Held}
 use Rattle.layout.specs.Elf.{headed, banks, parts, isCore}
 use Rattle.layout.specs.Layout.{core, layout, captured}
-use Rattle.layout.specs.Calls.{partWords, frontOf, Lays}
+use Rattle.layout.specs.Calls.{partWords, frontOf, Lays, Alone}
 use Rattle.layout.specs.declared.Laid.{Laid}
-use Rattle.layout.proofs.Parts.{parts-by, laid-held, front-spare}
+use Rattle.layout.specs.declared.Lone.{Lone}
+use Rattle.layout.proofs.Parts.{parts-by, laid-held, front-spare, none-ascending, sole-captured}
 
 pub core-captured : (file : List ℕ) → captured core file ≡ Calls.captured (ahead (frontOf (parts file))) (partWords (parts file)) file
 unfolding layout
 core-captured file = sym (ap (λ l. memory (frontOf (parts file) ∷ l) file) (parts-by (parts file)) ∙ fun-ext (λ q. front-spare (parts file) file q))
+
+core-readable : (file : List ℕ) → isCore file ≡ true → false ≡ layout core file .unreadable
+unfolding layout
+core-readable file e = rw e
 
 -- ---- a call that laid out a file that is accepted
 
@@ -50,5 +55,33 @@ module _ {file words′ : List ℕ} {r : Laid} (l : Lays file r words′) (reada
   laid-high = l .high accepted
 
   pub laid-readable : false ≡ layout core file .unreadable
+  laid-readable = core-readable file accepted
+
+-- ---- a call that found one bank alone
+
+module _ {file : List ℕ} {r : Lone} (l : Alone file r) (found : r .found ≡ true) where
+  both : (isCore file && eqb (length (banks file)) 1) ≡ true
+  both = sym (l .found) ∙ found
+
+  pub lone-accepted : isCore file ≡ true
+  lone-accepted = and-left _ _ both
+
+  pub lone-held : r .high ≡ false → Held (r .front) [] file
+  lone-held low =
+      record {
+        leads = rw (l .front found) (laid-held file lone-accepted (sym (l .high found) ∙ low) .leads);
+        ascending = none-ascending (length file);
+      }
+
+  pub lone-captured : Calls.captured (r .front) [] file ≡ captured core file
   unfolding layout
-  laid-readable = rw accepted
+  lone-captured =
+      let n : length (parts file) ≡ 1 = length-map (banks file) (part (length file)) ∙ eqb-true _ _ (and-right (isCore file) _ both) in
+      rw (l .front found) (sole-captured (parts file) file n)
+
+  pub lone-high : r .high ≡ anyHigh (layout core file .banks)
+  unfolding layout
+  lone-high = l .high found
+
+  pub lone-readable : false ≡ layout core file .unreadable
+  lone-readable = core-readable file lone-accepted

@@ -1,5 +1,6 @@
 pub mod Numbers
 pub mod Banks
+pub mod Headed
 pub mod Headers
 pub mod Steps
 pub mod Parts

@@ -1,7 +1,7 @@
 -- Banks and parts by the words that they were written as, and what is known of the parts of an accepted core file.
 -- Assumes nothing.
 use mathlib.Core.Path.{_≡_, refl, sym, ap₂, _∙_, subst}
-use mathlib.Core.Bool.{Bool, true, false, _&&_, _||_, true≢false}
+use mathlib.Core.Bool.{Bool, true, false, _&&_, _||_, or-false, true≢false}
 use mathlib.Core.List.{List, [], _∷_, _++_, map, append-nil}
 use Prim.Native.Nat.{ℕ, zero, suc, _+_, _*_, _^_, _≤_, _<_}
 use native.Mathlib.Nat.{zero-add}
@@ -15,7 +15,7 @@ use Rattle.bits.proofs.Tests.{and-left, and-right}
 use Rattle.reads.specs.Program.{Request, All, nil, cons}
 use Rattle.reads.specs.declared.Read.{Read}
 use Rattle.capture.specs.Capture.{Bank, part, kept, endsHigh, anyHigh, within, memory}
-use Rattle.capture.specs.Calls.{partAt, partsFrom, countOf, partsBy, ahead, Lies, Held}
+use Rattle.capture.specs.Calls.{partAt, partsFrom, countOf, partsBy, ahead, Lies, Ascending, Held}
 use Rattle.capture.specs.declared.Part.{Part}
 use Rattle.capture.proofs.Lesser.{part-lies}
 use Rattle.layout.specs.Elf.{headed, banks, mostBanks, follows, ascend, parts, wellLaid, isCore}
@@ -105,9 +105,9 @@ module _ (words : List ℕ) where
 
 -- ---- an accepted core file whose banks end by 2^48
 
-or-false : (a b : Bool) → (a || b) ≡ false → (a ≡ false) × (b ≡ false)
-or-false true b e = absurd (true≢false e)
-or-false false b e = (refl, e)
+both-false : (a b : Bool) → (a || b) ≡ false → (a ≡ false) × (b ≡ false)
+both-false true b e = absurd (true≢false e)
+both-false false b e = (refl, e)
 
 part-inside : (total : ℕ) (b : Bank) → endsHigh (b .address) (b .size) ≡ false → Lies total (part total b)
 unfolding part
@@ -120,7 +120,7 @@ pub all-inside : (total : ℕ) (l : List Bank) → anyHigh l ≡ false → All (
 unfolding anyHigh
 all-inside total [] low = nil
 all-inside total (b ∷ l) low =
-    let both = or-false (endsHigh (b .address) (b .size)) (anyHigh l) low in
+    let both = both-false (endsHigh (b .address) (b .size)) (anyHigh l) low in
     cons (part-inside total b (both .0)) (all-inside total l (both .1))
 
 pub all-lie : (file : List ℕ) (l : List Bank) → anyHigh l ≡ false → All (Lies (length file)) (map (part (length file)) l)
@@ -208,7 +208,21 @@ unfolding frontOf memory pick
 front-spare [] file q = rw (misses-all (q .address))
 front-spare (p ∷ l) file q = twice (within (p .address) (kept p) (q .address)) _ _
 
--- a raw capture: one part, and none by words
+-- ---- one part, in front, and none by words
+
+pub none-ascending : (total : ℕ) → Ascending [] total
+none-ascending total = record { lie = λ i h. absurd (omega (arith, h)); order = λ i j less h. absurd (omega (arith, h)) }
+
 pub one-part : (p : Part) (file : List ℕ) → memory (p ∷ partsBy []) file ≡ memory (p ∷ []) file
 unfolding partsFrom
 one-part p file = refl
+
+pub one-high : (b : Bank) → anyHigh (b ∷ []) ≡ endsHigh (b .address) (b .size)
+unfolding anyHigh
+one-high b = or-false (endsHigh (b .address) (b .size))
+
+pub sole-captured : (l : List Part) (file : List ℕ) → length l ≡ 1 → memory (frontOf l ∷ partsBy []) file ≡ memory l file
+unfolding frontOf
+sole-captured [] file n = absurd (omega (arith, n))
+sole-captured (p ∷ []) file n = one-part p file
+sole-captured (p ∷ q ∷ l) file n = absurd (omega (arith, n))

@@ -1,21 +1,20 @@
 -- A raw capture: one part, the whole of it, that may be read where it does not end high.
 -- Assumes nothing.
-use mathlib.Core.Path.{_≡_, refl, sym, ap, ap₂}
-use mathlib.Core.Bool.{Bool, true, false, _||_}
+use mathlib.Core.Path.{_≡_, refl, sym, ap, ap₂, _∙_}
+use mathlib.Core.Bool.{false}
 use mathlib.Core.List.{List, [], _∷_}
 use Prim.Native.Nat.{ℕ, _+_, _^_, _≤_}
 use native.Mathlib.Omega.{arith}
 use lib.ListN.{length}
 use borrow.Author.Tests.{ltb-false}
-use Rattle.reads.specs.Program.{Request}
-use Rattle.reads.specs.declared.Read.{Read}
 use Rattle.capture.specs.Capture.{least, part, endsHigh, anyHigh, memory}
 use Rattle.capture.specs.Calls as Calls
-use Rattle.capture.specs.Calls.{partsFrom, ahead, Held}
+use Rattle.capture.specs.Calls.{ahead, Held}
 use Rattle.capture.specs.declared.Front.{Front}
 use Rattle.capture.specs.declared.Part.{Part}
 use Rattle.capture.proofs.Lesser.{least-left, least-right}
 use Rattle.layout.specs.Layout.{raw, layout, partsOf, captured}
+use Rattle.layout.proofs.Parts.{none-ascending, one-part, one-high}
 
 abbrev all : (base : ℕ) (file : List ℕ) → Part
 all base file = record { address = base; from = 0; to = length file }
@@ -33,21 +32,16 @@ raw-parts base file =
 
 -- code reads it with no other parts
 pub raw-captured : (base : ℕ) (file : List ℕ) → captured (raw base) file ≡ Calls.captured (whole base file) [] file
-unfolding partsFrom
-raw-captured base file = ap (λ l. memory l file) (raw-parts base file)
+raw-captured base file = ap (λ l. memory l file) (raw-parts base file) ∙ sym (one-part (all base file) file)
 
 pub raw-high : (base : ℕ) (file : List ℕ) → anyHigh (layout (raw base) file .banks) ≡ endsHigh base (length file)
-unfolding anyHigh layout
-raw-high base file = or-none (endsHigh base (length file))
-  where
-    or-none : (b : Bool) → (b || false) ≡ b
-    or-none true = refl
-    or-none false = refl
+unfolding layout
+raw-high base file = one-high _
 
 pub raw-held : (base : ℕ) (file : List ℕ) → endsHigh base (length file) ≡ false → Held (whole base file) [] file
 raw-held base file e =
     let h : base + length file ≤ 2 ^ 48 = ltb-false _ _ e in
     record {
       leads = record { lies = record { order = omega arith; inside = omega arith; fits = omega (arith, h) }; back = refl };
-      ascending = record { lie = λ i less. absurd (omega (arith, less)); order = λ i j less inside. absurd (omega (arith, inside)) };
+      ascending = none-ascending (length file);
     }

@@ -1,10 +1,10 @@
 -- For the contracts of code: banks and parts as words, three for each, side by side.
 -- Assumes nothing.
 use mathlib.Core.Path.{_≡_}
-use mathlib.Core.Bool.{Bool, true, false, _&&_}
+use mathlib.Core.Bool.{true, false, _&&_}
 use mathlib.Core.List.{List, [], _∷_}
 use Prim.Native.Nat.{ℕ, zero, suc, _+_, _*_, _≤_, _<_}
-use lib.Dec.{leb}
+use lib.Dec.{leb, eqb}
 use lib.ListN.{length, getD, take}
 use lib.Seq.{sets}
 use Rattle.bits.specs.Bits.{pick}
@@ -13,7 +13,10 @@ use Rattle.capture.specs.Calls.{countOf, partsBy, ahead}
 use Rattle.capture.specs.declared.Part.{Part}
 use Rattle.layout.specs.declared.Said.{Said}
 use Rattle.layout.specs.declared.Laid.{Laid}
-use Rattle.layout.specs.Elf.{headed, banks, mostBanks, isCore, parts}
+use Rattle.layout.specs.declared.Lone.{Lone}
+use Rattle.layout.specs.declared.elf.Header.{Header}
+use Rattle.layout.specs.declared.elf.Tally.{Tally}
+use Rattle.layout.specs.Elf.{headed, bankAt, banksFrom, banks, mostBanks, isCore, parts}
 
 -- the words of banks
 unfoldable pub saidWords : List Bank → List ℕ
@@ -39,6 +42,16 @@ banksBy words = banksOn words 0 (countOf words)
 -- n program headers from one place on lie in a file of so many bytes
 abbrev pub There : (at n length : ℕ) → Type 0
 There at n length = (i : ℕ) → i < n → at + 56 * i + 56 ≤ length
+
+-- the bank that a header says
+abbrev pub bankOf : Header → Bank
+bankOf h = record { address = h .address; offset = h .offset; size = h .size }
+
+-- a call that counted the banks of n program headers from one place on. Where there is one alone it is at the place that is told.
+pub record Tallies (file : List ℕ) (at n : ℕ) (t : Tally) : Type 0 where
+  pub count : t .count ≡ length (banksFrom n at file)
+  pub there : 0 < t .count → t .last + 56 ≤ length file
+  pub sole : t .count ≡ 1 → banksFrom n at file ≡ bankAt (t .last) file ∷ []
 
 -- the first part, or no byte where there is none
 unfoldable pub frontOf : List Part → Part
@@ -66,3 +79,15 @@ pub record Lays (file : List ℕ) (r : Laid) (words′ : List ℕ) : Type 0 wher
   pub front : isCore file ≡ true → r .front ≡ ahead (frontOf (parts file))
   pub count : isCore file ≡ true → r .count ≡ length (banks file)
   pub written : isCore file ≡ true → take (3 * length (banks file)) words′ ≡ partWords (parts file)
+
+-- what is said of a file that is not accepted, or has another number of banks
+abbrev pub noLone : Lone
+noLone = record { found = false; high = false; front = record { part = record { address = 0; from = 0; to = 0 }; back = 0 } }
+
+-- a call that looked for the bank of an accepted core file that has one alone: whether it is such a file, whether the bank ends past
+-- 2^48, and what the file has of it
+pub record Alone (file : List ℕ) (r : Lone) : Type 0 where
+  pub found : r .found ≡ (isCore file && eqb (length (banks file)) 1)
+  pub none : r .found ≡ false → r ≡ noLone
+  pub high : r .found ≡ true → r .high ≡ anyHigh (banks file)
+  pub front : r .found ≡ true → r .front ≡ ahead (frontOf (parts file))

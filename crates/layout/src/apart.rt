@@ -37,7 +37,7 @@ fn ascend(banks: &[u64]) -> bool
 }
 
 // A part and the bytes of the file from one place to before another share a byte.
-fn meets(from: u64, to: u64, p: Part) -> bool
+pub(crate) fn meets(from: u64, to: u64, p: Part) -> bool
     ensures { λ r. ⌜ r ≡ Elf.meets from to p ⌝ }
 {
     let first = p.from as u64;

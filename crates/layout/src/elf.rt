@@ -108,20 +108,46 @@ fn is_bank(file: &[u8], at: usize) -> bool
     four(file, at) == 1
 }
 
-// How many of n program headers are banks.
-pub(crate) fn count_banks(file: &[u8], at: usize, n: usize) -> usize
+// What a program header says of its bank.
+pub struct Header {
+    pub address: u64,
+    pub offset: u64,
+    pub size: u64,
+}
+
+pub(crate) fn header_at(file: &[u8], at: usize) -> Header
+    requires { ⌜ at + 56 ≤ length (now file) ⌝ }
+    ensures { λ h. ⌜ Calls.bankOf h ≡ Elf.bankAt at (now (file .entry)) ⌝ }
+{
+    Header {
+        address: eight(file, at + 24),
+        offset: eight(file, at + 8),
+        size: eight(file, at + 32),
+    }
+}
+
+// How many of some program headers are banks, and where the last of those stands.
+pub struct Tally {
+    pub count: usize,
+    pub last: usize,
+}
+
+pub(crate) fn count_banks(file: &[u8], at: usize, n: usize) -> Tally
     requires { ⌜ Calls.There at n (length (now file)) ⌝ }
-    ensures { λ r. ⌜ r ≡ length (Elf.banksFrom n at (now (file .entry))) ⌝ }
+    ensures { λ t. ⌜ Calls.Tallies (now (file .entry)) at n t ⌝ }
 {
     let mut count = 0;
+    let mut last = at;
     let mut i = 0;
     while i < n {
-        if is_bank(file, at + 56 * i) {
+        let header = at + 56 * i;
+        if is_bank(file, header) {
             count += 1;
+            last = header;
         }
         i += 1;
     }
-    count
+    Tally { count, last }
 }
 
 // Their words, one after the other, over the first of those lent.
@@ -134,9 +160,10 @@ pub(crate) fn write_banks(file: &[u8], at: usize, n: usize, words: &mut [u64])
     while i < n {
         let header = at + 56 * i;
         if is_bank(file, header) {
-            words[k] = eight(file, header + 24);
-            words[k + 1] = eight(file, header + 8);
-            words[k + 2] = eight(file, header + 32);
+            let bank = header_at(file, header);
+            words[k] = bank.address;
+            words[k + 1] = bank.offset;
+            words[k + 2] = bank.size;
             k += 3;
         }
         i += 1;

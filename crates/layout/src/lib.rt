@@ -37,6 +37,14 @@ pub struct Laid {
     pub front: Front,
 }
 
+// The bank of a core file that is accepted and has one alone: it is the part in front, and no words are needed.
+pub struct Lone {
+    pub found: bool,
+    // It ends past 2^48.
+    pub high: bool,
+    pub front: Front,
+}
+
 fn unreadable() -> Said
     ensures { λ r. ⌜ r ≡ Calls.refusedHeaders ⌝ }
 {
@@ -57,7 +65,8 @@ pub fn read_headers(file: &[u8], words: &mut [u64]) -> Said
     let n = elf::header_count(file);
     let at = elf::headers_at(file);
     let first = at as usize;
-    let count = elf::count_banks(file, first, n);
+    let banks = elf::count_banks(file, first, n);
+    let count = banks.count;
     if MOST_BANKS < count {
         return unreadable();
     }
@@ -138,5 +147,50 @@ pub fn lay_out(file: &[u8], words: &mut [u64]) -> Laid
         high,
         count,
         front: capture::ahead(front_of(&words[0..end])),
+    }
+}
+
+fn none_alone() -> Lone
+    ensures { λ r. ⌜ r ≡ Calls.noLone ⌝ }
+{
+    Lone {
+        found: false,
+        high: false,
+        front: Front {
+            part: Part {
+                address: 0,
+                from: 0,
+                to: 0,
+            },
+            back: 0,
+        },
+    }
+}
+
+// The bank of a core file that has one alone. A single bank is in order and apart from every other.
+pub fn lone_bank(file: &[u8]) -> Lone
+    ensures { λ r. ⌜ Calls.Alone (now (file .entry)) r ⌝ }
+{
+    if !elf::is_headed(file) {
+        return none_alone();
+    }
+    let n = elf::header_count(file);
+    let at = elf::headers_at(file);
+    let banks = elf::count_banks(file, at as usize, n);
+    if banks.count != 1 {
+        return none_alone();
+    }
+    let bank = elf::header_at(file, banks.last);
+    let part = capture::of_bank(file.len() as u64, bank.address, bank.offset, bank.size);
+    if apart::meets(0, 64, part) {
+        return none_alone();
+    }
+    if apart::meets(at, at + 56 * n as u64, part) {
+        return none_alone();
+    }
+    Lone {
+        found: true,
+        high: capture::ends_high(bank.address, bank.size),
+        front: capture::ahead(part),
     }
 }

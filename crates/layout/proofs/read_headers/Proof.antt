@@ -1,50 +1,27 @@
 -- `read_headers` meets its contract: its tests are those of `isCore`, in their order, and the banks that it writes are those that it lays.
 -- Assumes nothing.
 use borrow.Author.Needs.{needs}
-use borrow.Author.Tests.{le-leb, lt-leb, leb-true, eqb-true, eqb-false, not-true, not-false}
-use mathlib.Core.Path.{_≡_, refl, ap, _∙_}
-use mathlib.Core.Bool.{Bool, true, false, _&&_, _||_}
+use borrow.Author.Tests.{le-leb, lt-leb, not-true, not-false}
+use mathlib.Core.Path.{_≡_, ap}
+use mathlib.Core.Bool.{Bool, true, false, _&&_}
 use mathlib.Core.List.{List}
-use Prim.Native.Nat.{ℕ, _+_, _-_, _*_, _^_, _≤_, _<_}
+use Prim.Native.Nat.{ℕ, _+_, _-_, _*_, _≤_, _<_}
 use native.Mathlib.Nat.{sub-zero}
 use native.Mathlib.Omega.{arith}
-use lib.Dec.{leb, eqb}
+use lib.Dec.{leb}
 use lib.ListN.{length, take}
 use lib.Seq.{sets}
 use Rattle.bits.specs.Bits.{pick}
-use Rattle.bits.proofs.Tests.{and-left, and-right, told}
+use Rattle.bits.proofs.Tests.{told}
 use Rattle.layout.specs.declared.Said.{Said}
-use Rattle.layout.specs.Elf.{ofKind, headed, headerCount, headersAt, headersEnd, banksFrom, banks, mostBanks, wellLaid, isCore}
-use Rattle.layout.specs.Calls.{saidWords, banksBy, There, refusedHeaders, Reads}
+use Rattle.layout.specs.Elf.{headed, headerCount, headersAt, headersEnd, banksFrom, banks, mostBanks, wellLaid, isCore}
+use Rattle.layout.specs.Calls.{saidWords, banksBy, refusedHeaders, Reads}
+use Rattle.layout.proofs.Headed.{long, there, fits}
 use Rattle.layout.proofs.Parts.{said-first, banks-by}
 use Rattle.layout.proofs.read_headers.Statement.{statement}
 use Rattle.layout.proofs.read_headers.Tie as tie
 
 module _ (file : List ℕ) where
-  -- headers that are there lie in the file
-  module _ (e : headed file ≡ true) where
-    long : 64 ≤ length file
-    unfolding headed
-    long = leb-true _ _ (and-left _ (ofKind file) (and-left _ _ e))
-
-    ends : (headerCount file ≡ 0 → ⊥) → headersEnd file ≤ length file
-    unfolding headed
-    ends some = by-test (eqb (headerCount file) 0) refl (and-right (leb 64 (length file) && ofKind file) _ e)
-      where
-        by-test : (b : Bool) → eqb (headerCount file) 0 ≡ b → (b || leb (headersEnd file) (length file)) ≡ true → headersEnd file ≤ length file
-        by-test true t h = absurd (some (eqb-true _ _ t))
-        by-test false t h = leb-true _ _ h
-
-    there : {n at : ℕ} → n ≡ headerCount file → at ≡ headersAt file → There at n (length file)
-    there p q i h = let x = ends (λ z. omega (arith, p, h)) in omega (arith, x, p, q, h)
-
-    fits : {n at : ℕ} → n ≡ headerCount file → at ≡ headersAt file → length file < 2 ^ 64 → at < 2 ^ 64 → at + 56 * n < 2 ^ 64
-    fits {n} {at} p q h k = by-test (eqb n 0) refl
-      where
-        by-test : (b : Bool) → eqb n 0 ≡ b → at + 56 * n < 2 ^ 64
-        by-test true t = let z : n ≡ 0 = eqb-true _ _ t in omega arith
-        by-test false t = let x = ends (λ z. eqb-false _ _ t (p ∙ z)) in omega (arith, x)
-
   counted : {n at count : ℕ} → n ≡ headerCount file → at ≡ headersAt file → count ≡ length (banksFrom n at file) → count ≡ length (banks file)
   counted p q e = rw (p, q) at e
 
@@ -96,12 +73,12 @@ read-headers-spec =
     (λ c.
     let k = c .before .before .before .before in
     let e = told (k .before .before .is-headed .ensures) (not-false _ (k .before .if1 .left)) in
-    let many = counted _ (k .header-count .ensures .0) (c .before .before .before .headers-at .ensures) (c .before .before .count-banks .ensures) in
+    let many = counted _ (k .header-count .ensures .0) (c .before .before .before .headers-at .ensures) (c .before .before .count-banks .ensures .count) in
     unread _ _ (crowded _ e many (c .before .if2 .taken)) (c .unreadable2 .ensures))
     (λ c κs.
     let k = c .before .before .before .before in
     let e = told (k .before .before .is-headed .ensures) (not-false _ (k .before .if1 .left)) in
-    (there _ e (k .header-count .ensures .0) (c .before .before .before .headers-at .ensures), omega (arith, c .before .before .count-banks .ensures, c .before .if2 .left)))
+    (there _ e (k .header-count .ensures .0) (c .before .before .before .headers-at .ensures), omega (arith, c .before .before .count-banks .ensures .count, c .before .if2 .left)))
     (λ c. search needs)
     (λ c. search needs)
     (λ c. search needs)
@@ -121,7 +98,7 @@ read-headers-spec =
     let h = k .before .before .before .before in
     let p = k .before .before .before .header-count .ensures .0 in
     let q = k .before .before .headers-at .ensures in
-    let many = counted _ p q (k .before .count-banks .ensures) in
+    let many = counted _ p q (k .before .count-banks .ensures .count) in
     let e = told (h .before .is-headed .ensures) (not-false _ (h .if1 .left)) in
     let l = laid-by _ _ _ p q many (omega (arith, k .if2 .left)) w (told (c .before .well-laid .ensures) (c .if3 .taken)) in
     laid _ _ _ (spare _ e many (k .if2 .left)) (rw (p, q) at w) l (ap (λ n. record { readable = true; count = n }) many))
@@ -132,7 +109,7 @@ read-headers-spec =
     let h = k .before .before .before .before in
     let p = k .before .before .before .header-count .ensures .0 in
     let q = k .before .before .headers-at .ensures in
-    let many = counted _ p q (k .before .count-banks .ensures) in
+    let many = counted _ p q (k .before .count-banks .ensures .count) in
     let e = told (h .before .is-headed .ensures) (not-false _ (h .if1 .left)) in
     let l = laid-by _ _ _ p q many (omega (arith, k .if2 .left)) w (told (c .before .before .well-laid .ensures) (c .before .if3 .left)) in
     laid _ _ _ (spare _ e many (k .if2 .left)) (rw (p, q) at w) l (c .unreadable3 .ensures)))

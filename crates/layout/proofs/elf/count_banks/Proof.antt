@@ -1,4 +1,4 @@
--- `count_banks` meets its contract: after i turns the count is how many of the first i headers are banks.
+-- `count_banks` meets its contract: after i turns the count is how many of the first i headers are banks, and the last of those is known.
 -- Assumes nothing.
 use borrow.Author.Needs.{needs}
 use mathlib.Core.Logic.{⊎-elim}
@@ -10,10 +10,10 @@ use Rattle.layout.proofs.elf.count_banks.Statement.{statement}
 use Rattle.layout.proofs.elf.count_banks.Tie as tie
 
 abbrev Inv-loop : tie.InvT-loop
-Inv-loop file at n count₀ i₀ count i = Counting file at n count i
+Inv-loop file at n count₀ last₀ i₀ count last i = Counting file at n count last i
 
 abbrev μ-loop : tie.MeasureT-loop
-μ-loop file at n count₀ i₀ count i = n - i
+μ-loop file at n count₀ last₀ i₀ count last i = n - i
 
 pub count-banks-spec : {M : Type 1} → statement M
 count-banks-spec =
@@ -21,17 +21,20 @@ count-banks-spec =
     (tie.spec
     Inv-loop
     μ-loop
-    (λ c. counting-start _ _ _)
-    (λ c. let l = c .before in omega (arith, l .before .before .pre (l .loop .i) (c .loop-test .taken)))
-    (λ c. let l = c .before in omega (arith, l .before .before .pre (l .loop .i) (c .loop-test .taken)))
-    (λ c κs. let l = c .before in omega (arith, l .before .before .pre (l .loop .i) (c .loop-test .taken)))
+    (λ c. counting-start _ _ _ _)
+    (λ c. omega (arith, c .before .before .before .pre _ (c .loop-test .taken)))
+    (λ c. omega (arith, c .before .before .before .pre _ (c .loop-test .taken)))
+    (λ c κs. c .before .before .before .pre _ (c .loop-test .taken))
     (λ c. search needs)
     (λ c. search needs)
     (λ c. search needs)
     (λ c.
     let l = c .before .before in
+    let inv = l .before .loop .inv in
+    let less = l .loop-test .taken in
+    let told = c .before .is-bank .ensures in
     ⊎-elim
-    (λ w. rw (w .1) (counting-bank _ _ _ (l .before .loop .inv) (l .loop-test .taken) (sym (c .before .is-bank .ensures) ∙ w .0 .taken)))
-    (λ w. rw (w .1) (counting-other _ _ _ (l .before .loop .inv) (l .loop-test .taken) (sym (c .before .is-bank .ensures) ∙ w .0 .left)))
+    (λ w. rw (w .1, w .2) (counting-bank _ _ _ inv less (sym told ∙ w .0 .taken) (l .before .before .before .pre _ less)))
+    (λ w. rw (w .1, w .2) (counting-other _ _ _ inv less (sym told ∙ w .0 .left)))
     (c .if1 .came))
     (λ c. counting-done _ _ _ (c .before .loop .inv) (c .loop-test .left)))
