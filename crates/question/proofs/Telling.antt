@@ -16,11 +16,13 @@ use Rattle.access.specs.Access.{listedSize}
 use Rattle.access.specs.declared.Access.{Access}
 use Rattle.capture.specs.Capture.{endsHigh}
 use Rattle.capture.specs.Calls as Calls
+use Rattle.capture.specs.declared.Front.{Front}
 use Rattle.layout.specs.Elf.{isCore}
 use Rattle.layout.specs.Layout.{Form, raw, core, layout}
-use Rattle.layout.specs.Calls.{Lays}
+use Rattle.layout.specs.Calls.{Lays, Alone}
 use Rattle.layout.specs.declared.Laid.{Laid}
-use Rattle.layout.proofs.Core.{lent, laid-captured, laid-high, laid-readable}
+use Rattle.layout.specs.declared.Lone.{Lone}
+use Rattle.layout.proofs.Core.{lent, laid-captured, laid-high, laid-readable, lone-captured, lone-high, lone-readable}
 use Rattle.layout.proofs.Raw.{whole, raw-captured, raw-high}
 use Rattle.walk.specs.declared.stop.Stop.{Stop}
 use Rattle.stages.specs.Stages.{access}
@@ -91,28 +93,35 @@ may-run high r g a words long accepted held = (
 
 -- ---- the question over a file, as code runs it
 
--- the promises of a call together
+module _ (r : El2) (g : El1) (a : Access) (log : List ℕ) {answer : Answer} {log′ : List ℕ} where
+  -- a raw capture: one part, the whole of it
+  pub raw-tells : {high : Bool} {front : Front} (base : ℕ) (file : List ℕ) → front ≡ whole base file → high ≡ endsHigh base (length file) →
+      Tells (askOver (Calls.captured front [] file) false high r g a log) answer log′ → Tells (ask (raw base) file r g a log) answer log′
+  unfolding ask layout
+  raw-tells base file e h t = rw (raw-captured base file, raw-high base file) (rw (e, h) at t)
+
+  -- a core file that is accepted
+  pub core-tells : {file words′ : List ℕ} {f : Laid} (l : Lays file f words′) (readable : f .readable ≡ true) →
+      Tells (askOver (Calls.captured (f .front) (lent l readable) file) false (f .high) r g a log) answer log′ → Tells (ask core file r g a log) answer log′
+  unfolding ask
+  core-tells l readable t = rw (← laid-captured l readable, ← laid-high l readable, ← laid-readable l readable) t
+
+  -- one with a bank that is alone
+  pub lone-tells : {file : List ℕ} {f : Lone} (l : Alone file f) (found : f .found ≡ true) →
+      Tells (askOver (Calls.captured (f .front) [] file) false (f .high) r g a log) answer log′ → Tells (ask core file r g a log) answer log′
+  unfolding ask
+  lone-tells l found t = rw (← lone-captured l found, ← lone-high l found, ← lone-readable l found) t
+
+-- one that is not
+pub core-refused : (file : List ℕ) (r : El2) (g : El1) (a : Access) (log : List ℕ) → isCore file ≡ false → Tells (ask core file r g a log) (Refused CoreFile) log
+unfolding ask askOver layout refuse turnedAway pick
+core-refused file r g a log e = rw e (record { answered = refl; logged = refl })
+
+-- what a call tells, with the promises of it
 abbrev pub Promised : Form → (file : List ℕ) → El2 → El1 → Access → (log : List ℕ) → Answer → (log′ : List ℕ) → Type 0
 Promised form file r g a log answer log′ =
     Tells (ask form file r g a log) answer log′ × (Counts form file r g a log × ((other : List ℕ) → Framing form file other r g a log))
 
-module _ (r : El2) (g : El1) (a : Access) (log : List ℕ) {answer : Answer} {log′ : List ℕ} where
-  promised : (form : Form) (file : List ℕ) → Tells (ask form file r g a log) answer log′ → Promised form file r g a log answer log′
-  promised form file t = (t, (counts _ _ _ _ _ _, λ other. framing _ _ _ _ _ _ _))
-
-  -- a raw capture: one part, the whole of it
-  pub raw-told : {high : Bool} {front : _} (base : ℕ) (file : List ℕ) → front ≡ whole base file → high ≡ endsHigh base (length file) →
-      Tells (askOver (Calls.captured front [] file) false high r g a log) answer log′ → Promised (raw base) file r g a log answer log′
-  unfolding ask layout
-  raw-told base file e h t = promised _ _ (rw (raw-captured base file, raw-high base file) (rw (e, h) at t))
-
-  -- a core file that is accepted
-  pub core-told : {file words′ : List ℕ} {f : Laid} (l : Lays file f words′) (readable : f .readable ≡ true) →
-      Tells (askOver (Calls.captured (f .front) (lent l readable) file) false (f .high) r g a log) answer log′ → Promised core file r g a log answer log′
-  unfolding ask
-  core-told l readable t = promised _ _ (rw (← laid-captured l readable, ← laid-high l readable, ← laid-readable l readable) t)
-
--- one that is not
-pub core-refused : (file : List ℕ) (r : El2) (g : El1) (a : Access) (log : List ℕ) → isCore file ≡ false → Promised core file r g a log (Refused CoreFile) log
-unfolding ask askOver layout refuse turnedAway pick
-core-refused file r g a log e = promised r g a log core file (rw e (record { answered = refl; logged = refl }))
+pub promised : {form : Form} {file : List ℕ} {r : El2} {g : El1} {a : Access} {log : List ℕ} {answer : Answer} {log′ : List ℕ} →
+    Tells (ask form file r g a log) answer log′ → Promised form file r g a log answer log′
+promised t = (t, (counts _ _ _ _ _ _, λ other. framing _ _ _ _ _ _ _))

@@ -9,7 +9,7 @@ use registers::El2;
 use stages::both;
 use stages::both::Arrival;
 ghost use mathlib.Core.Path.{_≡_};
-ghost use mathlib.Core.Bool.{true};
+ghost use mathlib.Core.Bool.{true, false};
 ghost use mathlib.Core.List.{List};
 ghost use Prim.Native.Nat.{ℕ, _≤_};
 ghost use lib.ListN.{length};
@@ -22,7 +22,7 @@ ghost use Rattle.stages.specs.Calls.{arrived};
 ghost use Rattle.settings.specs.Settings.{settings};
 ghost use Rattle.regime.specs.Roots.{stage1, stage2};
 ghost use Rattle.answers.specs.Answers as Answers;
-ghost use Rattle.answers.specs.Question.{ask, Tells};
+ghost use Rattle.answers.specs.Question.{ask, askOver, Tells};
 ghost use Rattle.answers.specs.Counts.{Counts};
 ghost use Rattle.answers.specs.Framing.{Framing};
 
@@ -39,8 +39,8 @@ fn answer_of(r: El2, g: El1, a: Access, last: Arrival) -> Answer
     answers::answered(reached, reads)
 }
 
-// Where an access by the guest lands, by parts of a file, as a list of one address. The physical address of each descriptor read goes into
-// the log, in order; every other word of it is kept.
+// Where an access by the guest lands, by parts of a file. The physical address of each descriptor read goes into the log, in order; every
+// other word of it is kept.
 fn arrival(
     file: &[u8],
     front: Front,
@@ -53,23 +53,33 @@ fn arrival(
     requires { ⌜ (settings r g ≡ 0) × (listedSize (a .size) ≡ true) × Held front (now parts) (now file) × (24 ≤ length (now log)) ⌝ }
     ensures { λ last. ⌜ Ran (captured front (now (parts .entry)) (now (file .entry))) (access (stage1 r g) (stage2 r) a) (now (log .entry)) 0 (arrived (stage1 r g) (stage2 r) a last) (last .end .count) (now (log .exit)) ⌝ }
 {
-    let addresses = [a.address; 1];
-    let mut outputs = [0u64; 1];
-    let mut numbers = [0u64; 1];
-    accesses::each(
-        file,
-        front,
-        parts,
-        r,
-        g,
-        a.kind,
-        a.el,
-        a.size,
-        &addresses,
-        &mut outputs,
-        &mut numbers,
-        log,
-    )
+    let p = regime::prepared1_at(r, g, a.address);
+    let q = regime::prepared2(r);
+    both::access(file, front, parts, p, q, a, log)
+}
+
+// The question over parts of a file that is readable.
+fn over(
+    file: &[u8],
+    front: Front,
+    parts: &[u64],
+    high: bool,
+    r: El2,
+    g: El1,
+    a: Access,
+    log: &mut [u64],
+) -> Answer
+    requires { ⌜ (high ≡ false → Held front (now parts) (now file)) ⌝ }
+    ensures { λ answer. ⌜ Tells (askOver (captured front (now (parts .entry)) (now (file .entry))) false high r g a (now (log .entry))) answer (now (log .exit)) ⌝ }
+{
+    if log.len() < LOG_WORDS {
+        return Answer::Refused(Refusal::ShortLog);
+    }
+    let verdict = answers::shared_verdict(high, r, g, a.kind, a.el, a.size);
+    match verdict {
+        Verdict::Refused(why) => Answer::Refused(why),
+        Verdict::Accepted => answer_of(r, g, a, arrival(file, front, parts, r, g, a, log)),
+    }
 }
 
 // The question over a raw capture, of which the first byte lies at base.
@@ -78,38 +88,39 @@ pub fn translate(bytes: &[u8], base: u64, r: El2, g: El1, a: Access, log: &mut [
     ensures counted { λ answer. ⌜ Counts (raw base) (now (bytes .entry)) r g a (now (log .entry)) ⌝ }
     ensures framed { λ answer. ⌜ ((other : List ℕ) → Framing (raw base) (now (bytes .entry)) other r g a (now (log .entry))) ⌝ }
 {
-    if log.len() < LOG_WORDS {
-        return Answer::Refused(Refusal::ShortLog);
-    }
     let whole = capture::whole(base, bytes.len());
     let high = capture::ends_high(base, bytes.len() as u64);
     let none = [0u64; 1];
-    let verdict = answers::shared_verdict(high, r, g, a.kind, a.el, a.size);
-    match verdict {
-        Verdict::Refused(why) => Answer::Refused(why),
-        Verdict::Accepted => answer_of(r, g, a, arrival(bytes, whole, &none[0..0], r, g, a, log)),
-    }
+    over(bytes, whole, &none[0..0], high, r, g, a, log)
 }
 
-// The question over a core file.
-pub fn translate_core(file: &[u8], r: El2, g: El1, a: Access, log: &mut [u64]) -> Answer
-    ensures told { λ answer. ⌜ Tells (ask core (now (file .entry)) r g a (now (log .entry))) answer (now (log .exit)) ⌝ }
-    ensures counted { λ answer. ⌜ Counts core (now (file .entry)) r g a (now (log .entry)) ⌝ }
-    ensures framed { λ answer. ⌜ ((other : List ℕ) → Framing core (now (file .entry)) other r g a (now (log .entry))) ⌝ }
+// The question over a core file, by words for all banks that it may have.
+fn over_banks(file: &[u8], r: El2, g: El1, a: Access, log: &mut [u64]) -> Answer
+    ensures { λ answer. ⌜ Tells (ask core (now (file .entry)) r g a (now (log .entry))) answer (now (log .exit)) ⌝ }
 {
     let mut words = [0u64; 192];
     let laid = layout::lay_out(file, &mut words);
     if !laid.readable {
         return Answer::Refused(Refusal::CoreFile);
     }
-    if log.len() < LOG_WORDS {
-        return Answer::Refused(Refusal::ShortLog);
-    }
     let end = 3 * laid.count;
     let front = laid.front;
-    let verdict = answers::shared_verdict(laid.high, r, g, a.kind, a.el, a.size);
-    match verdict {
-        Verdict::Refused(why) => Answer::Refused(why),
-        Verdict::Accepted => answer_of(r, g, a, arrival(file, front, &words[0..end], r, g, a, log)),
+    over(file, front, &words[0..end], laid.high, r, g, a, log)
+}
+
+// The question over a core file. A bank that is alone is read as a raw capture is: setting words for all banks to 0 and going through them
+// takes as long as a short walk.
+pub fn translate_core(file: &[u8], r: El2, g: El1, a: Access, log: &mut [u64]) -> Answer
+    ensures told { λ answer. ⌜ Tells (ask core (now (file .entry)) r g a (now (log .entry))) answer (now (log .exit)) ⌝ }
+    ensures counted { λ answer. ⌜ Counts core (now (file .entry)) r g a (now (log .entry)) ⌝ }
+    ensures framed { λ answer. ⌜ ((other : List ℕ) → Framing core (now (file .entry)) other r g a (now (log .entry))) ⌝ }
+{
+    let lone = layout::lone_bank(file);
+    if lone.found {
+        let none = [0u64; 1];
+        let front = lone.front;
+        over(file, front, &none[0..0], lone.high, r, g, a, log)
+    } else {
+        over_banks(file, r, g, a, log)
     }
 }

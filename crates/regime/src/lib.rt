@@ -1,6 +1,6 @@
 // The stages of a walk, as registers give them (01, Walk).
 ghost use mathlib.Core.Path.{_≡_};
-ghost use Prim.Native.Nat.{_+_, _≤_, _<_};
+ghost use Prim.Native.Nat.{_+_, _^_, _≤_, _<_};
 ghost use mathlib.Core.Bool.{_&&_, _||_};
 ghost use lib.Dec.{leb};
 ghost use lib.IntN.{pos};
@@ -171,7 +171,7 @@ pub fn prepared1(r: El2, g: El1) -> Prepared1
 // The same for one address alone: its VA range stands in the place of both, and the other is not worked out.
 pub fn prepared1_at(r: El2, g: El1, address: u64) -> Prepared1
     requires { ⌜ settings r g ≡ 0 ⌝ }
-    ensures { λ p. ⌜ (stage1Of p ≡ Calls.sided1 (bit address 55) r g) × Sound1 p ⌝ }
+    ensures { λ p. ⌜ (stage1Of p ≡ Calls.sided1 (bit address 55) r g) × Sound1 p × (address < 2 ^ 64) ⌝ }
 {
     let half = half_at(g, settings::stage1_on(r, g), address);
     let size = 64 - half.tnsz;

@@ -21,6 +21,7 @@ returns c =
     ((
       words-are _ _ (h .before .before .pre) _ _ narrow narrow _ _ start start ∙ rw (h .half-at .ensures, c .before .before .output1 .ensures, h .before .stage1-on .ensures),
       words-sound _ _ (h .before .before .pre) _ _ narrow narrow _ _ start start,
+      omega arith,
     ))
 
 pub prepared1-at-spec : {M : Type 1} → statement M
