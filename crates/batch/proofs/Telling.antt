@@ -4,15 +4,17 @@ use mathlib.Core.Path.{_≡_, refl, sym, ap, _∙_}
 use mathlib.Core.Bool.{Bool, true, false, not, _||_, true≢false}
 use mathlib.Core.List.{List, [], map}
 use Prim.Native.Nat.{ℕ, _≤_}
+use native.Mathlib.Omega.{arith}
 use lib.Dec.{ltb, eqb}
 use lib.ListN.{length}
 use borrow.Author.Tests.{eqb-true, ltb-false}
-use Rattle.bits.proofs.Tests.{pick-true, pick-false}
 use Rattle.bits.specs.Bits.{pick}
 use Rattle.reads.specs.Program.{Request}
 use Rattle.reads.specs.declared.Read.{Read}
+use Rattle.access.specs.Access.{listedSize}
 use Rattle.capture.specs.Capture.{endsHigh}
 use Rattle.capture.specs.Calls as Calls
+use Rattle.capture.specs.declared.Front.{Front}
 use Rattle.layout.specs.Elf.{isCore}
 use Rattle.layout.specs.Layout.{raw, core, layout}
 use Rattle.layout.specs.Calls.{Lays}
@@ -25,7 +27,8 @@ use Rattle.answers.specs.declared.Refusal.{Refusal}
 use Rattle.answers.specs.declared.Refusal.the-variants.{BatchLists, CoreFile}
 use Rattle.answers.specs.declared.Verdict.{Verdict}
 use Rattle.answers.specs.declared.Verdict.the-variants as Verdict
-use Rattle.answers.proofs.Refusals.{refuse-refused, refuse-accepted}
+use Rattle.answers.proofs.Refusals.{refuse-refused, refuse-accepted, accepted-settings, accepted-capture, accepted-size}
+use Rattle.settings.specs.Settings.{settings}
 use Rattle.ledger.specs.declared.Ledger.{Ledger}
 use Rattle.batch.specs.declared.BatchAnswer.{BatchAnswer}
 use Rattle.batch.specs.declared.BatchAnswer.the-variants.{Done, Refused}
@@ -43,34 +46,47 @@ equal-lists asked outputs numbers = by-tests (eqb asked outputs) (eqb asked numb
     by-tests true false d p q r e = absurd (true≢false e)
     by-tests true true d p q r e = (sym (p refl), sym (q refl), r e)
 
-module _ (m : Request → Read) (high : Bool) (s : Shared) (addresses outputs numbers : List ℕ) where
-  abbrev pub given : BatchTold
-  given = batchOver m false high s addresses outputs numbers
+-- a first ground that is passed
+first-passed : (b : Bool) (v : Verdict) → pick b (Verdict.Refused BatchLists) v ≡ Verdict.Accepted → (b ≡ false) × (v ≡ Verdict.Accepted)
+unfolding pick
+first-passed true v e = absurd (let z : _≡_ {A = ℕ} 0 1 = cc in omega arith)
+first-passed false v e = (refl, e)
 
-  told-as : {t : BatchTold} → given ≡ t → BatchTells given (t .answer) (t .outputs) (t .numbers)
-  told-as e = record { answered = sym (ap (λ (z : BatchTold). z .answer) e); placed = sym (ap (λ (z : BatchTold). z .outputs) e); numbered = sym (ap (λ (z : BatchTold). z .numbers) e) }
+module _ (high : Bool) (s : Shared) (addresses outputs numbers : List ℕ) where
+  -- whether it is refused, and why
+  abbrev pub own : Verdict
+  own = verdict (batchGrounds false high s (length addresses) (length outputs) (length numbers))
 
-  pub tells-lists : unequal (length addresses) (length outputs) (length numbers) ≡ true → BatchTells given (Refused BatchLists) outputs numbers
-  unfolding batchOver refuse pick
-  tells-lists e = told-as (pick-true _ _ _ e)
+  -- what each of its addresses may be asked with where it is not, and a file that does not end high may be read
+  pub may-run : {Held : Type 0} (words : ℕ) → own ≡ Verdict.Accepted → 24 ≤ words → (high ≡ false → Held) →
+      (settings (s .el2) (s .el1) ≡ 0) × (listedSize (s .size) ≡ true) × Held × (24 ≤ words) × (length outputs ≡ length addresses) × (length numbers ≡ length addresses)
+  unfolding refuse pick
+  may-run words accepted long held =
+      let p = first-passed _ _ accepted in
+      let e = equal-lists (length addresses) (length outputs) (length numbers) (p .0) in (
+        accepted-settings high (s .el2) (s .el1) (s .kind) (s .el) (s .size) (p .1),
+        accepted-size high (s .el2) (s .el1) (s .kind) (s .el) (s .size) (p .1),
+        held (accepted-capture high (s .el2) (s .el1) (s .kind) (s .el) (s .size) (p .1)),
+        long,
+        e .0,
+        e .1,
+      )
 
-  module _ (equal : unequal (length addresses) (length outputs) (length numbers) ≡ false) where
-    abbrev own : Verdict
-    own = verdict (shared high (s .el2) (s .el1) (s .kind) (s .el) (s .size))
+  module _ (m : Request → Read) where
+    abbrev pub given : BatchTold
+    given = batchOver m false high s addresses outputs numbers
 
-    whole : verdict (batchGrounds false high s (length addresses) (length outputs) (length numbers)) ≡ own
-    unfolding refuse pick
-    whole = pick-false _ _ _ equal
+    told-as : {t : BatchTold} → given ≡ t → BatchTells given (t .answer) (t .outputs) (t .numbers)
+    told-as e = record { answered = sym (ap (λ (z : BatchTold). z .answer) e); placed = sym (ap (λ (z : BatchTold). z .outputs) e); numbered = sym (ap (λ (z : BatchTold). z .numbers) e) }
 
-    pub tells-refused : (why : Refusal) → own ≡ Verdict.Refused why → BatchTells given (Refused why) outputs numbers
+    pub tells-refused : {why : Refusal} → own ≡ Verdict.Refused why → BatchTells given (Refused why) outputs numbers
     unfolding batchOver
-    tells-refused why e = told-as (refuse-refused _ _ _ why (whole ∙ e))
+    tells-refused e = told-as (refuse-refused _ _ _ _ e)
 
-    pub tells-filled : own ≡ Verdict.Accepted → (l : Ledger) (outputs′ numbers′ : List ℕ) → Filled (answerTo m s) addresses l outputs′ numbers′ →
-        BatchTells given (Done l) outputs′ numbers′
+    pub tells-filled : {l : Ledger} {outputs′ numbers′ : List ℕ} → own ≡ Verdict.Accepted → Filled (answerTo m s) addresses l outputs′ numbers′ → BatchTells given (Done l) outputs′ numbers′
     unfolding batchOver answered
-    tells-filled e l outputs′ numbers′ f =
-        let t : given ≡ answered (map (answerTo m s) addresses) = refuse-accepted _ _ _ (whole ∙ e) in
+    tells-filled accepted f =
+        let t : given ≡ answered (map (answerTo m s) addresses) = refuse-accepted _ _ _ accepted in
         record {
           answered = ap Done (f .figures) ∙ sym (ap (λ (z : BatchTold). z .answer) t);
           placed = f .placed ∙ sym (ap (λ (z : BatchTold). z .outputs) t);
@@ -80,11 +96,11 @@ module _ (m : Request → Read) (high : Bool) (s : Shared) (addresses outputs nu
 -- ---- the batch over a file, as code runs it
 
 module _ (s : Shared) (addresses outputs numbers : List ℕ) {answer : BatchAnswer} {outputs′ numbers′ : List ℕ} where
-  pub raw-tells : (base : ℕ) (file : List ℕ) →
-      BatchTells (batchOver (Calls.captured (Raw.whole base file) [] file) false (endsHigh base (length file)) s addresses outputs numbers) answer outputs′ numbers′ →
+  pub raw-tells : {high : Bool} {front : Front} (base : ℕ) (file : List ℕ) → front ≡ Raw.whole base file → high ≡ endsHigh base (length file) →
+      BatchTells (batchOver (Calls.captured front [] file) false high s addresses outputs numbers) answer outputs′ numbers′ →
       BatchTells (batch (raw base) file s addresses outputs numbers) answer outputs′ numbers′
   unfolding batch layout
-  raw-tells base file t = rw (raw-captured base file, raw-high base file) t
+  raw-tells base file e h t = rw (raw-captured base file, raw-high base file) (rw (e, h) at t)
 
   pub core-tells : {file words′ : List ℕ} {f : Laid} (l : Lays file f words′) (readable : f .readable ≡ true) →
       BatchTells (batchOver (Calls.captured (f .front) (lent l readable) file) false (f .high) s addresses outputs numbers) answer outputs′ numbers′ →

@@ -1,15 +1,15 @@
 // A batch: many addresses with one kind, EL and size, each answered as the single question answers it.
+// Both calls go through the addresses by `accesses::each` themselves: compiled into a single caller, it would be slower.
 
 use answers::Refusal;
 use answers::Verdict;
-use capture::Front;
 use ledger::Ledger;
 use registers::El1;
 use registers::El2;
 ghost use mathlib.Core.Path.{_≡_};
 ghost use mathlib.Core.Bool.{false};
-ghost use Rattle.capture.specs.Calls.{captured, Held};
 ghost use Rattle.layout.specs.Layout.{raw, core};
+ghost use Rattle.answers.specs.Refusals.{verdict};
 ghost use Rattle.batch.specs.Batch as Batches;
 ghost use Rattle.batch.specs.Promises as Promises;
 
@@ -39,52 +39,28 @@ fn unequal(asked: usize, outputs: usize, numbers: usize) -> bool
     (asked != outputs) | (asked != numbers) | (MOST < asked)
 }
 
-// Answers each address, by parts of a file: its answer's number, and its output address or 0. Registers are decoded once.
-fn over(
-    file: &[u8],
-    front: Front,
-    parts: &[u64],
+// Whether a batch over a file that is readable is refused: for its lists, and then for what a question is refused for too.
+fn verdict_of(
+    asked: usize,
+    outputs: usize,
+    numbers: usize,
     high: bool,
     r: El2,
     g: El1,
     kind: u64,
     el: u64,
     size: u64,
-    addresses: &[u64],
-    outputs: &mut [u64],
-    numbers: &mut [u64],
-) -> BatchAnswer
-    requires { ⌜ (high ≡ false → Held front (now parts) (now file)) ⌝ }
-    ensures { λ answer. ⌜ Promises.BatchTells (Batches.batchOver (captured front (now (parts .entry)) (now (file .entry))) false high (Batches.sharing r g kind el size) (now (addresses .entry)) (now (outputs .entry)) (now (numbers .entry))) answer (now (outputs .exit)) (now (numbers .exit)) ⌝ }
+) -> Verdict
+    ensures { λ v. ⌜ v ≡ verdict (Batches.batchGrounds false high (Batches.sharing r g kind el size) asked outputs numbers) ⌝ }
 {
-    if unequal(addresses.len(), outputs.len(), numbers.len()) {
-        return BatchAnswer::Refused(Refusal::BatchLists);
+    if unequal(asked, outputs, numbers) {
+        return Verdict::Refused(Refusal::BatchLists);
     }
-    let verdict = answers::shared_verdict(high, r, g, kind, el, size);
-    match verdict {
-        Verdict::Refused(why) => BatchAnswer::Refused(why),
-        Verdict::Accepted => {
-            let mut log = [0u64; 24];
-            accesses::each(
-                file,
-                front,
-                parts,
-                r,
-                g,
-                kind,
-                el,
-                size,
-                addresses,
-                outputs,
-                numbers,
-                &mut log,
-            );
-            BatchAnswer::Done(ledger::count(numbers))
-        }
-    }
+    answers::shared_verdict(high, r, g, kind, el, size)
 }
 
-// The batch over a raw capture, of which the first byte lies at base.
+// The batch over a raw capture, of which the first byte lies at base. Each address gets its answer's number, and its output address or 0.
+// Registers are decoded once.
 pub fn run(
     bytes: &[u8],
     base: u64,
@@ -103,20 +79,38 @@ pub fn run(
     let whole = capture::whole(base, bytes.len());
     let high = capture::ends_high(base, bytes.len() as u64);
     let none = [0u64; 1];
-    over(
-        bytes,
-        whole,
-        &none[0..0],
+    let verdict = verdict_of(
+        addresses.len(),
+        outputs.len(),
+        numbers.len(),
         high,
         r,
         g,
         kind,
         el,
         size,
-        addresses,
-        outputs,
-        numbers,
-    )
+    );
+    match verdict {
+        Verdict::Refused(why) => BatchAnswer::Refused(why),
+        Verdict::Accepted => {
+            let mut log = [0u64; 24];
+            accesses::each(
+                bytes,
+                whole,
+                &none[0..0],
+                r,
+                g,
+                kind,
+                el,
+                size,
+                addresses,
+                outputs,
+                numbers,
+                &mut log,
+            );
+            BatchAnswer::Done(ledger::count(numbers))
+        }
+    }
 }
 
 // The batch over a core file.
@@ -141,18 +135,36 @@ pub fn run_core(
     }
     let end = 3 * laid.count;
     let front = laid.front;
-    over(
-        file,
-        front,
-        &words[0..end],
+    let verdict = verdict_of(
+        addresses.len(),
+        outputs.len(),
+        numbers.len(),
         laid.high,
         r,
         g,
         kind,
         el,
         size,
-        addresses,
-        outputs,
-        numbers,
-    )
+    );
+    match verdict {
+        Verdict::Refused(why) => BatchAnswer::Refused(why),
+        Verdict::Accepted => {
+            let mut log = [0u64; 24];
+            accesses::each(
+                file,
+                front,
+                &words[0..end],
+                r,
+                g,
+                kind,
+                el,
+                size,
+                addresses,
+                outputs,
+                numbers,
+                &mut log,
+            );
+            BatchAnswer::Done(ledger::count(numbers))
+        }
+    }
 }
