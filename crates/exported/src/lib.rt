@@ -1,7 +1,6 @@
-// The batch and the audit, each over a raw capture and over a core file, the question over a core file, the list of its banks and the
-// ledger's line as calls on numbers, structs of numbers and slices, for programs in C and Rust; and all answers in numbers.
-// The question over a raw capture is in `exported_question`. include/humpelkaas.h declares all of them for C.
-use access::Access;
+// The batch and the audit, each over a raw capture and over a core file, the list of a core file's banks and the ledger's line as calls on
+// numbers, structs of numbers and slices, for programs in C and Rust; and all answers in numbers.
+// The questions are in `exported_question` and `exported_core_question`. include/humpelkaas.h declares all of them for C.
 use answers::Answer;
 use answers::Refusal;
 use attributes::Cacheability;
@@ -22,7 +21,6 @@ ghost use mathlib.Core.Path.{_≡_};
 ghost use Prim.Native.Nat.{_≤_};
 ghost use Rattle.answers.specs.Answers.{stageNumber, carries};
 ghost use Rattle.answers.specs.declared.Answer.the-variants as Answers;
-ghost use Rattle.answers.specs.Question.{ask};
 ghost use Rattle.ledger.specs.Line.{lineInto};
 ghost use Rattle.batch.specs.Batch.{sharing, batch};
 ghost use Rattle.audit.specs.Audit.{audit};
@@ -258,21 +256,6 @@ pub fn in_words(a: Answer) -> Words
         }
         Answer::Refused(refusal) => refused(number, item_of(refusal)),
     }
-}
-
-// The question over a core file, by its bytes. A slice is a pointer and a length: of bytes, and of the log's words.
-#[no_mangle]
-pub extern "C" fn humpelkaas_core_translate(
-    file: &[u8],
-    r: El2,
-    g: El1,
-    a: Access,
-    log: &mut [u64],
-) -> Words
-    ensures answered { λ w. ⌜ w ≡ Numbers.words (ask core (now (file .entry)) r g a (now (log .entry)) .answer) ⌝ }
-    ensures logged { λ w. ⌜ now (log .exit) ≡ ask core (now (file .entry)) r g a (now (log .entry)) .log ⌝ }
-{
-    in_words(question::translate_core(file, r, g, a, log))
 }
 
 // A batch's answer in numbers: its own, a settings refusal's item, and its ledger, which is 0 throughout where it has none.

@@ -1,5 +1,5 @@
 // The question over a raw capture as a call for programs in C and Rust, as those of `exported` are. It is a crate of its own so that it is
-// compiled by itself: the access to each address of a list, which a batch takes too, becomes that to one address.
+// compiled by itself: then the access has one caller, and all of the question becomes one function.
 use access::Access;
 use exported::Words;
 use registers::El1;

@@ -1,8 +1,8 @@
 -- `humpelkaas_core_translate` meets its contract, by those of the question and of its words.
 -- Assumes nothing.
 use borrow.Author.Needs.{needs}
-use Rattle.exported.proofs.humpelkaas_core_translate.Statement.{statement}
-use Rattle.exported.proofs.humpelkaas_core_translate.Tie as tie
+use Rattle.exported_core_question.proofs.humpelkaas_core_translate.Statement.{statement}
+use Rattle.exported_core_question.proofs.humpelkaas_core_translate.Tie as tie
 
 returns : tie.Need-returns
 returns c =
