@@ -1,7 +1,7 @@
 // Accesses by a guest, and which numbers a question may hold.
 ghost use mathlib.Core.Path.{_≡_};
-ghost use mathlib.Core.Bool.{true};
-ghost use Prim.Native.Nat.{_%_};
+ghost use mathlib.Core.Bool.{true, cond};
+ghost use Prim.Native.Nat.{_-_};
 ghost use Rattle.access.specs.Access as Accesses;
 
 // One access by a guest. The numbers are the caller's: kind 0 reads, 1 writes, 2 fetches; el is 0 or 1; size is in bytes.
@@ -55,12 +55,13 @@ pub fn listed(kind: u64, el: u64, size: u64) -> bool
     (kind <= 2) & (el <= 1) & listed_size(size)
 }
 
-// What is left of x by a listed size, by a mask: each is a power of 2, and a division costs more than all the rest.
-fn remainder(x: u64, n: u64) -> u64
-    requires { ⌜ Accesses.listedSize n ≡ true ⌝ }
-    ensures { λ r. ⌜ r ≡ x % n ⌝ }
+// The bits that the address of a data access must not have: its size is a power of 2. A fetch may have any. One mask for all addresses of
+// a batch, in the place of a division for each.
+fn low_bits(a: Access) -> u64
+    requires { ⌜ Accesses.listedSize (a .size) ≡ true ⌝ }
+    ensures { λ r. ⌜ r ≡ cond (Accesses.isFetch a) 0 (a .size - 1) ⌝ }
 {
-    x & (n - 1)
+    if is_fetch(a) { 0 } else { a.size - 1 }
 }
 
 // A data access that is not a multiple of its size.
@@ -68,9 +69,5 @@ pub fn unaligned(a: Access) -> bool
     requires { ⌜ Accesses.listedSize (a .size) ≡ true ⌝ }
     ensures { λ r. ⌜ r ≡ Accesses.unaligned a ⌝ }
 {
-    if is_fetch(a) {
-        false
-    } else {
-        remainder(a.address, a.size) != 0
-    }
+    a.address & low_bits(a) != 0
 }

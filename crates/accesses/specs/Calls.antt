@@ -17,6 +17,6 @@ use Rattle.answers.specs.Entries.{answerOf, outputOf}
 
 -- both written lists have each address's answer, `to` being the access to an address; of a list of one, the last end and the log are the access's
 pub record Each (m : Request → Read) (s1 : Stage1) (s2 : Stage2) (to : ℕ → Access) (addresses log : List ℕ) (last : Arrival) (outputs numbers log′ : List ℕ) : Type 0 where
-  pub placed : outputs ≡ map outputOf (map (λ x. answerOf m s1 s2 (to x)) addresses)
-  pub numbered : numbers ≡ map number (map (λ x. answerOf m s1 s2 (to x)) addresses)
+  pub placed : outputs ≡ map (λ x. outputOf (answerOf m s1 s2 (to x))) addresses
+  pub numbered : numbers ≡ map (λ x. number (answerOf m s1 s2 (to x))) addresses
   pub single : (x : ℕ) → addresses ≡ x ∷ [] → Ran m (access s1 s2 (to x)) log 0 (arrived s1 s2 (to x) last) (last .end .count) log′

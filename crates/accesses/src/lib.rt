@@ -1,14 +1,14 @@
-// The access to each address of a list, with one kind, EL and size. Registers are decoded and stages prepared once.
+// The access to each address of a list, with one kind, EL and size, from prepared stages.
 use access::Access;
 use capture::Front;
-use registers::El1;
-use registers::El2;
 use stages::both;
 use stages::both::Arrival;
 use stages::both::By;
+use stages::stage1::Prepared1;
 use walk::end;
 use walk::end::End;
 use walk::end::Ending;
+use walk::stage2::Prepared2;
 ghost use mathlib.Core.Path.{_≡_};
 ghost use mathlib.Core.Bool.{true};
 ghost use Prim.Native.Nat.{_≤_};
@@ -17,8 +17,8 @@ ghost use Rattle.bits.specs.Bits.{pick};
 ghost use Rattle.access.specs.Access.{listedSize};
 ghost use Rattle.capture.specs.Calls.{captured, Held};
 ghost use Rattle.walk.specs.Ends.{passed};
-ghost use Rattle.settings.specs.Settings.{settings};
-ghost use Rattle.regime.specs.Roots.{stage1, stage2};
+ghost use Rattle.walk.specs.Calls.{Sound2, stage2Of};
+ghost use Rattle.stages.specs.Calls.{Sound1, stage1Of};
 ghost use Rattle.accesses.specs.Calls.{Each};
 
 // The output address, or 0 for an address that is not translated.
@@ -36,8 +36,8 @@ pub fn each(
     file: &[u8],
     front: Front,
     parts: &[u64],
-    r: El2,
-    g: El1,
+    p: Prepared1,
+    q: Prepared2,
     kind: u64,
     el: u64,
     size: u64,
@@ -46,11 +46,9 @@ pub fn each(
     numbers: &mut [u64],
     log: &mut [u64],
 ) -> Arrival
-    requires { ⌜ (settings r g ≡ 0) × (listedSize size ≡ true) × Held front (now parts) (now file) × (24 ≤ length (now log)) × (length (now outputs) ≡ length (now addresses)) × (length (now numbers) ≡ length (now addresses)) ⌝ }
-    ensures { λ last. ⌜ Each (captured front (now (parts .entry)) (now (file .entry))) (stage1 r g) (stage2 r) (λ x. record { address = x; kind = kind; el = el; size = size }) (now (addresses .entry)) (now (log .entry)) last (now (outputs .exit)) (now (numbers .exit)) (now (log .exit)) ⌝ }
+    requires { ⌜ Sound1 p × Sound2 q × (listedSize size ≡ true) × Held front (now parts) (now file) × (24 ≤ length (now log)) × (length (now outputs) ≡ length (now addresses)) × (length (now numbers) ≡ length (now addresses)) ⌝ }
+    ensures { λ last. ⌜ Each (captured front (now (parts .entry)) (now (file .entry))) (stage1Of p) (stage2Of q) (λ x. record { address = x; kind = kind; el = el; size = size }) (now (addresses .entry)) (now (log .entry)) last (now (outputs .exit)) (now (numbers .exit)) (now (log .exit)) ⌝ }
 {
-    let p = regime::prepared1(r, g);
-    let q = regime::prepared2(r);
     let mut last = Arrival {
         by: By::First,
         end: end::stopped(Ending::Unsettled, 0, 0),

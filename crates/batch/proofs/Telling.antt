@@ -3,10 +3,10 @@
 use mathlib.Core.Path.{_≡_, refl, sym, ap, _∙_}
 use mathlib.Core.Bool.{Bool, true, false, not, _||_, true≢false}
 use mathlib.Core.List.{List, [], map}
-use Prim.Native.Nat.{ℕ, _≤_}
+use Prim.Native.Nat.{ℕ, _^_, _≤_, _<_}
 use native.Mathlib.Omega.{arith}
 use lib.Dec.{ltb, eqb}
-use lib.ListN.{length}
+use lib.ListN.{length, getD}
 use borrow.Author.Tests.{eqb-true, ltb-false}
 use Rattle.bits.specs.Bits.{pick}
 use Rattle.reads.specs.Program.{Request}
@@ -29,10 +29,22 @@ use Rattle.answers.specs.declared.Verdict.{Verdict}
 use Rattle.answers.specs.declared.Verdict.the-variants as Verdict
 use Rattle.answers.proofs.Refusals.{refuse-refused, refuse-accepted, accepted-settings, accepted-capture, accepted-size}
 use Rattle.settings.specs.Settings.{settings}
+use Rattle.walk.specs.declared.stage2.Stage2.{Stage2}
+use Rattle.stages.specs.declared.stage1.Stage1.{Stage1}
+use Rattle.stages.specs.declared.both.Arrival.{Arrival}
+use Rattle.regime.specs.Roots.{stage1, stage2}
+use Rattle.regime.specs.Calls.{narrowed1, narrowed2}
+use Rattle.regime.proofs.Narrowed.{access-narrowed}
+use Rattle.answers.specs.Answers.{number}
+use Rattle.answers.specs.Entries.{answerOf, outputOf}
+use Rattle.answers.specs.declared.Answer.{Answer}
+use Rattle.accesses.specs.Calls.{Each}
+use Rattle.accesses.proofs.Lists.{answers-same}
+use Rattle.ledger.specs.Ledger.{ledger}
 use Rattle.ledger.specs.declared.Ledger.{Ledger}
 use Rattle.batch.specs.declared.BatchAnswer.{BatchAnswer}
 use Rattle.batch.specs.declared.BatchAnswer.the-variants.{Done, Refused}
-use Rattle.batch.specs.Batch.{Shared, answerTo, unequal, batchGrounds, BatchTold, answered, batchOver, batch}
+use Rattle.batch.specs.Batch.{Shared, accessTo, answerTo, unequal, batchGrounds, BatchTold, answered, batchOver, batch}
 use Rattle.batch.specs.Promises.{BatchTells}
 use Rattle.batch.specs.Calls.{Filled}
 
@@ -57,20 +69,22 @@ module _ (high : Bool) (s : Shared) (addresses outputs numbers : List ℕ) where
   abbrev pub own : Verdict
   own = verdict (batchGrounds false high s (length addresses) (length outputs) (length numbers))
 
-  -- what each of its addresses may be asked with where it is not, and a file that does not end high may be read
-  pub may-run : {Held : Type 0} (words : ℕ) → own ≡ Verdict.Accepted → 24 ≤ words → (high ≡ false → Held) →
-      (settings (s .el2) (s .el1) ≡ 0) × (listedSize (s .size) ≡ true) × Held × (24 ≤ words) × (length outputs ≡ length addresses) × (length numbers ≡ length addresses)
-  unfolding refuse pick
-  may-run words accepted long held =
-      let p = first-passed _ _ accepted in
-      let e = equal-lists (length addresses) (length outputs) (length numbers) (p .0) in (
-        accepted-settings high (s .el2) (s .el1) (s .kind) (s .el) (s .size) (p .1),
-        accepted-size high (s .el2) (s .el1) (s .kind) (s .el) (s .size) (p .1),
-        held (accepted-capture high (s .el2) (s .el1) (s .kind) (s .el) (s .size) (p .1)),
-        long,
-        e .0,
-        e .1,
-      )
+  module _ (accepted : own ≡ Verdict.Accepted) where
+    passed : (unequal (length addresses) (length outputs) (length numbers) ≡ false) × (verdict (shared high (s .el2) (s .el1) (s .kind) (s .el) (s .size)) ≡ Verdict.Accepted)
+    unfolding refuse pick
+    passed = first-passed _ _ accepted
+
+    pub may-prepare : settings (s .el2) (s .el1) ≡ 0
+    may-prepare = accepted-settings high (s .el2) (s .el1) (s .kind) (s .el) (s .size) (passed .1)
+
+    pub size-listed : listedSize (s .size) ≡ true
+    size-listed = accepted-size high (s .el2) (s .el1) (s .kind) (s .el) (s .size) (passed .1)
+
+    pub not-high : high ≡ false
+    not-high = accepted-capture high (s .el2) (s .el1) (s .kind) (s .el) (s .size) (passed .1)
+
+    pub lists-equal : (length outputs ≡ length addresses) × (length numbers ≡ length addresses) × (length addresses ≤ 4096)
+    lists-equal = equal-lists (length addresses) (length outputs) (length numbers) (passed .0)
 
   module _ (m : Request → Read) where
     abbrev pub given : BatchTold
@@ -92,6 +106,20 @@ module _ (high : Bool) (s : Shared) (addresses outputs numbers : List ℕ) where
           placed = f .placed ∙ sym (ap (λ (z : BatchTold). z .outputs) t);
           numbered = f .numbered ∙ sym (ap (λ (z : BatchTold). z .numbers) t);
         }
+
+-- lists that were filled by the stages as they were prepared
+module _ (m : Request → Read) (s : Shared) (accepted : settings (s .el2) (s .el1) ≡ 0) (addresses : List ℕ) (fit : (i : ℕ) → i < length addresses → getD addresses i 0 < 2 ^ 64)
+    {s1 : Stage1} {s2 : Stage2} (one : s1 ≡ narrowed1 (s .el2) (s .el1)) (two : s2 ≡ narrowed2 (s .el2)) where
+  alike : (f : Answer → ℕ) → map (λ x. f (answerOf m s1 s2 (accessTo s x))) addresses ≡ map f (map (answerTo m s) addresses)
+  alike f =
+      answers-same m s1 (stage1 (s .el2) (s .el1)) s2 (stage2 (s .el2)) (accessTo s) f addresses
+      (λ i less. rw (one, two) (access-narrowed (s .el2) (s .el1) accepted (accessTo s (getD addresses i 0)) (fit i less)))
+
+  pub filled-by : {l : Ledger} {last : Arrival} {log log′ outputs′ numbers′ : List ℕ} →
+      Each m s1 s2 (accessTo s) addresses log last outputs′ numbers′ log′ → l ≡ ledger numbers′ → Filled (answerTo m s) addresses l outputs′ numbers′
+  filled-by e figures =
+      let n = e .numbered ∙ alike number in
+      record { figures = figures ∙ ap ledger n; placed = e .placed ∙ alike outputOf; numbered = n }
 
 -- ---- the batch over a file, as code runs it
 

@@ -1,5 +1,6 @@
 // A batch: many addresses with one kind, EL and size, each answered as the single question answers it.
-// Both calls go through the addresses by `accesses::each` themselves: compiled into a single caller, it would be slower.
+// Registers are decoded and stages prepared once. Both calls go through the addresses by `accesses::each` themselves: compiled into a
+// single caller, it would be slower.
 
 use answers::Refusal;
 use answers::Verdict;
@@ -60,7 +61,6 @@ fn verdict_of(
 }
 
 // The batch over a raw capture, of which the first byte lies at base. Each address gets its answer's number, and its output address or 0.
-// Registers are decoded once.
 pub fn run(
     bytes: &[u8],
     base: u64,
@@ -94,12 +94,14 @@ pub fn run(
         Verdict::Refused(why) => BatchAnswer::Refused(why),
         Verdict::Accepted => {
             let mut log = [0u64; 24];
+            let p = regime::prepared1(r, g);
+            let q = regime::prepared2(r);
             accesses::each(
                 bytes,
                 whole,
                 &none[0..0],
-                r,
-                g,
+                p,
+                q,
                 kind,
                 el,
                 size,
@@ -150,12 +152,14 @@ pub fn run_core(
         Verdict::Refused(why) => BatchAnswer::Refused(why),
         Verdict::Accepted => {
             let mut log = [0u64; 24];
+            let p = regime::prepared1(r, g);
+            let q = regime::prepared2(r);
             accesses::each(
                 file,
                 front,
                 &words[0..end],
-                r,
-                g,
+                p,
+                q,
                 kind,
                 el,
                 size,

@@ -1,6 +1,8 @@
--- `unaligned` meets its contract.
+-- `unaligned` meets its contract: a mask keeps what is left by the size.
 -- Assumes nothing.
 use borrow.Author.Needs.{needs}
+use Rattle.access.specs.Access.{isFetch}
+use Rattle.access.proofs.Sizes.{unaligned-by}
 use Rattle.access.proofs.unaligned.Statement.{statement}
 use Rattle.access.proofs.unaligned.Tie as tie
 
@@ -9,6 +11,4 @@ unaligned-spec =
     tie.close
     (tie.spec
     (λ c κs. search needs)
-    (λ c κs. search needs)
-    (λ c. rw (← c .before .is-fetch .ensures, c .if1 .taken))
-    (λ c. rw (← c .before .before .is-fetch .ensures, c .before .if1 .left, c .remainder .ensures)))
+    (λ c. let z = c .before .before in rw (c .before .low-bits .ensures) (unaligned-by (z .args .a .size) (z .pre) (z .args .a .address) (isFetch (z .args .a)))))

@@ -1,23 +1,18 @@
 -- `each` meets its contract: what is stored from an address on is what is stored from the first.
 -- Assumes nothing.
 use borrow.Author.Needs.{needs, scaled-fits}
-use mathlib.Core.Path.{_≡_, _∙_}
-use Prim.Native.Nat.{ℕ, _-_, _<_}
+use mathlib.Core.Path.{_∙_}
+use Prim.Native.Nat.{ℕ, _-_}
 use native.Mathlib.Omega.{arith}
-use lib.ListN.{length, getD}
+use lib.ListN.{length}
 use Rattle.access.specs.declared.Access.{Access}
 use Rattle.capture.specs.Calls.{captured}
 use Rattle.walk.specs.Calls.{stage2Of}
-use Rattle.stages.specs.Stages.{access}
-use Rattle.stages.specs.Calls.{arrived, stage1Of}
-use Rattle.stages.specs.declared.both.Arrival.{Arrival}
-use Rattle.regime.specs.Roots.{stage1, stage2}
-use Rattle.regime.proofs.Narrowed.{access-narrowed, arrived-ranged}
+use Rattle.stages.specs.Calls.{stage1Of}
 use Rattle.answers.specs.Answers.{number}
 use Rattle.answers.specs.Entries.{answerOf, outputOf}
 use Rattle.answers.proofs.Entries.{ran-number, ran-output}
 use Rattle.accesses.proofs.Filling.{Filling, filling-start, filling-next, filling-done}
-use Rattle.accesses.proofs.Lists.{answers-same}
 use Rattle.accesses.proofs.Runs.{Runs, runs-start, runs-next, runs-done}
 use Rattle.accesses.proofs.each.Statement.{statement}
 use Rattle.accesses.proofs.each.Tie as tie
@@ -27,32 +22,29 @@ abbrev to : (kind el size address : ℕ) → Access
 to kind el size address = record { address = address; kind = kind; el = el; size = size }
 
 abbrev Inv-loop : tie.InvT-loop
-Inv-loop file front parts kind el size addresses outputs₀ numbers₀ log₀ p q last₀ i₀ outputs numbers log last i =
+Inv-loop file front parts p q kind el size addresses outputs₀ numbers₀ log₀ last₀ i₀ outputs numbers log last i =
     Filling (λ x. outputOf (answerOf (captured front parts file) (stage1Of p) (stage2Of q) (to kind el size x))) addresses outputs₀ outputs i
     × Filling (λ x. number (answerOf (captured front parts file) (stage1Of p) (stage2Of q) (to kind el size x))) addresses numbers₀ numbers i
     × Runs (captured front parts file) (stage1Of p) (stage2Of q) (to kind el size) addresses log₀ log last i
 
 abbrev μ-loop : tie.MeasureT-loop
-μ-loop file front parts kind el size addresses outputs₀ numbers₀ log₀ p q last₀ i₀ outputs numbers log last i = length addresses - i
-
-prepared1-requires : tie.Need-prepared1-requires Inv-loop μ-loop
-prepared1-requires c κs = c .before .before .before .before .before .before .pre .0
+μ-loop file front parts p q kind el size addresses outputs₀ numbers₀ log₀ last₀ i₀ outputs numbers log last i = length addresses - i
 
 access-requires : tie.Need-access-requires Inv-loop μ-loop
 access-requires c κs =
     let l = c .before .before .before in
-    let p = l .before .before .before .before .before .before .before .before .before .before .pre in
-    (l .before .before .before .prepared1 .ensures .1, l .before .before .prepared2 .ensures .1, p .1, p .2, omega (arith, l .loop .inv .2 .same, p .3))
+    let p = l .before .before .before .before .before .before .before .before .pre in
+    (p .0, p .1, p .2, p .3, omega (arith, l .loop .inv .2 .same, p .4))
 
 slice-write-outputs : tie.Need-slice-write-outputs Inv-loop μ-loop
 slice-write-outputs c =
     let l = c .before .before .before .before .before .before .before .before in
-    omega (arith, c .before .before .before .before .before .before .before .loop-test .taken, l .loop .inv .0 .same, l .before .before .before .before .before .before .before .before .before .before .pre .4)
+    omega (arith, c .before .before .before .before .before .before .before .loop-test .taken, l .loop .inv .0 .same, l .before .before .before .before .before .before .before .before .pre .5)
 
 slice-write-numbers : tie.Need-slice-write-numbers Inv-loop μ-loop
 slice-write-numbers c =
     let l = c .before .before .before .before .before .before .before .before .before in
-    omega (arith, c .before .before .before .before .before .before .before .before .loop-test .taken, l .loop .inv .1 .same, l .before .before .before .before .before .before .before .before .before .before .pre .5)
+    omega (arith, c .before .before .before .before .before .before .before .before .loop-test .taken, l .loop .inv .1 .same, l .before .before .before .before .before .before .before .before .pre .6)
 
 loop-again : tie.Need-loop-again Inv-loop μ-loop
 loop-again c =
@@ -64,36 +56,15 @@ loop-again c =
       runs-next _ _ _ _ _ _ (l .loop .inv .2) (omega (arith, less)) ran,
     )
 
--- the access to each address of the list is that by the stages as they were prepared
-same : (c : tie.After-loop Inv-loop μ-loop) →
-    let z = c .before .before .before .before .before .before .before .before .before .before .before .args in
-    (i : ℕ) → i < length (z .addresses .now) →
-    (let a = to (z .kind) (z .el) (z .size) (getD (z .addresses .now) i 0) in
-    access (stage1Of (c .before .before .before .before .prepared1 .result)) (stage2Of (c .before .before .before .prepared2 .result)) a ≡ access (stage1 (z .r) (z .g)) (stage2 (z .r)) a)
-same c i less =
-    let q = c .before .before .before in
-    let k = q .before .before .before .before .before in
-    rw (q .before .prepared1 .ensures .0, q .prepared2 .ensures .0) (access-narrowed _ _ (k .before .before .before .pre .0) _ (omega (arith, k .shared-slice-known3 .given i)))
-
--- what is left out of the stages shows in no end
-told-alike : (c : tie.After-loop Inv-loop μ-loop) (a : Access) (last : Arrival) →
-    let z = c .before .before .before .before .before .before .before .before .before .before .before .args in
-    arrived (stage1Of (c .before .before .before .before .prepared1 .result)) (stage2Of (c .before .before .before .prepared2 .result)) a last ≡ arrived (stage1 (z .r) (z .g)) (stage2 (z .r)) a last
-told-alike c a last = rw (c .before .before .before .before .prepared1 .ensures .0, c .before .before .before .prepared2 .ensures .0) (arrived-ranged _ _ _ _ a last)
-
 returns : tie.Need-returns Inv-loop μ-loop
 returns c =
     let l = c .before in
-    let k = l .before .before .before .before .before .before .before .before .before .before in
-    let z = k .args in
-    let p = k .pre in
-    let m = captured (z .front) (z .parts .now) (z .file .now) in
-    let at = to (z .kind) (z .el) (z .size) in
+    let p = l .before .before .before .before .before .before .before .before .pre in
     let over = c .loop-test .left in
     record {
-      placed = filling-done _ _ _ _ _ over (p .4) (l .loop .inv .0) ∙ answers-same m _ _ _ _ at outputOf (z .addresses .now) (same c);
-      numbered = filling-done _ _ _ _ _ over (p .5) (l .loop .inv .1) ∙ answers-same m _ _ _ _ at number (z .addresses .now) (same c);
-      single = λ x e. rw (← rw e at (same c 0 (rw e (omega arith))), ← told-alike c _ _) (runs-done _ _ _ _ _ _ (l .loop .inv .2) over x e);
+      placed = filling-done _ _ _ _ _ over (p .5) (l .loop .inv .0);
+      numbered = filling-done _ _ _ _ _ over (p .6) (l .loop .inv .1);
+      single = runs-done _ _ _ _ _ _ (l .loop .inv .2) over;
     }
 
 pub each-spec : {M : Type 1} → statement M
@@ -102,20 +73,18 @@ each-spec =
     (tie.spec
     Inv-loop
     μ-loop
-    prepared1-requires
-    (λ c κs. search needs)
     (λ c κs. search needs)
     (λ c. (filling-start _ _ _, filling-start _ _ _, runs-start _ _ _ _ _ _ _))
-    (λ c. scaled-fits _ _ _ (c .loop-test .taken) (c .before .before .before .before .before .before .before .before .before .before .before .good .1 .1 .1 .1 .1 .1 .1 .1 .0 .1))
+    (λ c. scaled-fits _ _ _ (c .loop-test .taken) (c .before .before .before .before .before .before .before .before .before .good .1 .1 .1 .1 .1 .1 .1 .1 .0 .1))
     (λ c. search needs)
     access-requires
     (λ c κs. search needs)
-    (λ c. scaled-fits _ _ _ (c .before .before .before .before .before .before .before .loop-test .taken) (c .before .before .before .before .before .before .before .before .before .before .before .before .before .before .before .before .before .before .good .1 .1 .1 .1 .1 .1 .1 .1 .0 .1))
+    (λ c. scaled-fits _ _ _ (c .before .before .before .before .before .before .before .loop-test .taken) (c .before .before .before .before .before .before .before .before .before .before .before .before .before .before .before .before .good .1 .1 .1 .1 .1 .1 .1 .1 .0 .1))
     slice-write-outputs
     (λ c κs. search needs)
-    (λ c. scaled-fits _ _ _ (c .before .before .before .before .before .before .before .before .loop-test .taken) (c .before .before .before .before .before .before .before .before .before .before .before .before .before .before .before .before .before .before .before .good .1 .1 .1 .1 .1 .1 .1 .1 .0 .1))
+    (λ c. scaled-fits _ _ _ (c .before .before .before .before .before .before .before .before .loop-test .taken) (c .before .before .before .before .before .before .before .before .before .before .before .before .before .before .before .before .before .good .1 .1 .1 .1 .1 .1 .1 .1 .0 .1))
     slice-write-numbers
-    (λ c. record { fits = omega (arith, c .before .before .before .before .before .before .before .before .loop-test .taken, c .before .before .before .before .before .before .before .before .before .before .before .before .before .before .before .before .before .before .before .good .1 .1 .1 .1 .1 .1 .1 .1 .0 .0) })
+    (λ c. record { fits = omega (arith, c .before .before .before .before .before .before .before .before .loop-test .taken, c .before .before .before .before .before .before .before .before .before .before .before .before .before .before .before .before .before .good .1 .1 .1 .1 .1 .1 .1 .1 .0 .0) })
     (λ c. omega (arith, c .before .before .before .before .before .before .before .before .loop-test .taken))
     loop-again
     (λ c. c .before .loop .inv .0 .same)

@@ -1,38 +1,63 @@
 -- `run` meets its contract: a raw capture is one part, the whole of it, and the verdict tells whether its addresses are asked.
 -- Assumes nothing.
 use borrow.Author.Needs.{needs}
-use mathlib.Core.Path.{_≡_, sym, ap, _∙_}
+use mathlib.Core.Path.{_≡_, sym, _∙_}
+use native.Mathlib.Omega.{arith}
 use denote.Ref.{now}
 use Rattle.layout.proofs.Raw.{raw-held}
-use Rattle.ledger.specs.Ledger.{ledger}
-use Rattle.batch.specs.Batch.{sharing}
+use Rattle.answers.specs.declared.Verdict.the-variants.{Accepted}
+use Rattle.batch.specs.Batch.{Shared, sharing}
 use Rattle.batch.proofs.Promises.{promised}
-use Rattle.batch.proofs.Telling.{may-run, tells-refused, tells-filled, raw-tells}
+use Rattle.batch.proofs.Telling.{own, may-prepare, size-listed, not-high, lists-equal, tells-refused, tells-filled, filled-by, raw-tells}
 use Rattle.batch.proofs.run.Statement.{statement}
 use Rattle.batch.proofs.run.Tie as tie
 
+-- ---- where it is accepted
+
+abbrev told : tie.After-enum-told → tie.After-verdict-of
+told d = d .before .before
+
+abbrev begun : tie.After-enum-told → tie.Start
+begun d = told d .before .before .before .before .before .before .before
+
+abbrev shared : tie.After-enum-told → Shared
+shared d = let z = begun d .args in sharing (z .r) (z .g) (z .kind) (z .el) (z .size)
+
+accepted : (d : tie.After-enum-told) → let z = begun d .args in own (told d .before .ends-high .result) (shared d) (now (z .addresses)) (now (z .outputs)) (now (z .numbers)) ≡ Accepted
+accepted d = sym (told d .verdict-of .ensures) ∙ d .enum-told .given .1
+
 each-requires : tie.Need-each-requires
 each-requires c κs =
-    let told = c .before .before .before .before .before in
-    let v = told .before .before in
-    let z = v .before .before .before .before .before .before .before in
-    may-run _ (sharing (z .args .r) (z .args .g) (z .args .kind) (z .args .el) (z .args .size)) (now (z .args .addresses)) (now (z .args .outputs)) (now (z .args .numbers)) _ (sym (v .verdict-of .ensures) ∙ told .enum-told .given .1) (search needs)
-    (λ low. rw (v .before .before .whole .ensures) (raw-held (z .args .base) (now (z .args .bytes)) (sym (v .before .ends-high .ensures) ∙ low)))
+    let d = c .before .before .before .before .before .before .before in
+    let v = told d in
+    let z = begun d .args in
+    let equal = lists-equal _ (shared d) (now (z .addresses)) (now (z .outputs)) (now (z .numbers)) (accepted d) in (
+      c .before .before .before .before .before .before .prepared1 .ensures .1,
+      c .before .before .before .before .before .prepared2 .ensures .1,
+      size-listed _ (shared d) (now (z .addresses)) (now (z .outputs)) (now (z .numbers)) (accepted d),
+      rw (v .before .before .whole .ensures)
+          (raw-held (z .base) (now (z .bytes)) (sym (v .before .ends-high .ensures) ∙ not-high _ (shared d) (now (z .addresses)) (now (z .outputs)) (now (z .numbers)) (accepted d))),
+      search needs,
+      equal .0,
+      equal .1,
+    )
 
 returns : tie.Need-returns
 returns c =
     let v = c .before .before .before in
-    let told = tells-refused _ _ _ _ _ _ (sym (v .verdict-of .ensures) ∙ c .before .verdict .given .1) in
-    (raw-tells _ _ _ _ _ _ (v .before .before .whole .ensures) (v .before .ends-high .ensures) told, promised _ _ _ _ _ _)
+    let refused = tells-refused _ _ _ _ _ _ (sym (v .verdict-of .ensures) ∙ c .before .verdict .given .1) in
+    (raw-tells _ _ _ _ _ _ (v .before .before .whole .ensures) (v .before .ends-high .ensures) refused, promised _ _ _ _ _ _)
 
 returns-2 : tie.Need-returns-2
 returns-2 c =
     let each = c .before .before .before .before .before .before .before in
-    let told = each .before .before .before .before .before .before in
-    let v = told .before .before in
-    let e = each .each .ensures in
-    let filled = tells-filled _ _ _ _ _ _ (sym (v .verdict-of .ensures) ∙ told .enum-told .given .1) (record { figures = c .count .ensures ∙ ap ledger (e .numbered); placed = e .placed; numbered = e .numbered }) in
-    (raw-tells _ _ _ _ _ _ (v .before .before .whole .ensures) (v .before .ends-high .ensures) filled, promised _ _ _ _ _ _)
+    let q = each .before .before .before .before .before .before in
+    let d = q .before .before in
+    let v = told d in
+    let z = begun d .args in
+    let settings = may-prepare _ (shared d) (now (z .addresses)) (now (z .outputs)) (now (z .numbers)) (accepted d) in
+    let filled = filled-by _ (shared d) settings (now (z .addresses)) (λ i less. omega (arith, v .before .before .before .before .before .shared-slice-known2 .given i)) (q .before .prepared1 .ensures .0) (q .prepared2 .ensures .0) (each .each .ensures) (c .count .ensures) in
+    (raw-tells _ _ _ _ _ _ (v .before .before .whole .ensures) (v .before .ends-high .ensures) (tells-filled _ _ _ _ _ _ (accepted d) filled), promised _ _ _ _ _ _)
 
 pub run-spec : {M : Type 1} → statement M
 run-spec =
@@ -43,6 +68,8 @@ run-spec =
     (λ c κs. search needs)
     (λ c. search needs)
     (λ c. search needs)
+    (λ c κs. let z = begun c .args in may-prepare _ (shared c) (now (z .addresses)) (now (z .outputs)) (now (z .numbers)) (accepted c))
+    (λ c κs. search needs)
     (λ c. search needs)
     (λ c. search needs)
     (λ c. search needs)

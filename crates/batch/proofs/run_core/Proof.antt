@@ -2,54 +2,79 @@
 -- Assumes nothing.
 use borrow.Author.Needs.{needs}
 use borrow.Author.Tests.{not-true, not-false}
-use mathlib.Core.Path.{_≡_, sym, ap, _∙_}
+use mathlib.Core.Path.{_≡_, sym, _∙_}
 use mathlib.Core.Bool.{true}
 use native.Mathlib.Omega.{arith}
 use Prim.Native.Nat.{_*_, _≤_}
 use denote.Ref.{now}
 use Rattle.layout.proofs.Core.{few, held}
-use Rattle.ledger.specs.Ledger.{ledger}
-use Rattle.batch.specs.Batch.{sharing}
+use Rattle.answers.specs.declared.Verdict.the-variants.{Accepted}
+use Rattle.batch.specs.Batch.{Shared, sharing}
 use Rattle.batch.proofs.Promises.{promised}
-use Rattle.batch.proofs.Telling.{may-run, tells-refused, tells-filled, core-tells, core-refused}
+use Rattle.batch.proofs.Telling.{own, may-prepare, size-listed, not-high, lists-equal, tells-refused, tells-filled, filled-by, core-tells, core-refused}
 use Rattle.batch.proofs.run_core.Statement.{statement}
 use Rattle.batch.proofs.run_core.Tie as tie
 
 -- ---- past the test of the file
 
 abbrev laid : tie.Else1 → tie.After-lay-out
-laid d = d .before .before .before
+laid e = e .before .before .before
 
-readable : (d : tie.Else1) → laid d .lay-out .result .readable ≡ true
-readable d = not-false _ (d .if1 .left)
+readable : (e : tie.Else1) → laid e .lay-out .result .readable ≡ true
+readable e = not-false _ (e .if1 .left)
 
-few-banks : (d : tie.Else1) → 3 * laid d .lay-out .result .count ≤ 192
-few-banks d = omega (arith, few (laid d .lay-out .ensures) (readable d))
+few-banks : (e : tie.Else1) → 3 * laid e .lay-out .result .count ≤ 192
+few-banks e = omega (arith, few (laid e .lay-out .ensures) (readable e))
+
+-- ---- where it is accepted
+
+abbrev told : tie.After-enum-told → tie.After-verdict-of
+told d = d .before .before
+
+abbrev read : tie.After-enum-told → tie.Else1
+read d = told d .before .before .before
+
+abbrev begun : tie.After-enum-told → tie.Start
+begun d = laid (read d) .before .before .before .before .before .before
+
+abbrev shared : tie.After-enum-told → Shared
+shared d = let z = begun d .args in sharing (z .r) (z .g) (z .kind) (z .el) (z .size)
+
+accepted : (d : tie.After-enum-told) →
+    let z = begun d .args in own (laid (read d) .lay-out .result .high) (shared d) (now (z .addresses)) (now (z .outputs)) (now (z .numbers)) ≡ Accepted
+accepted d = sym (told d .verdict-of .ensures) ∙ d .enum-told .given .1
 
 each-requires : tie.Need-each-requires
 each-requires c κs =
-    let told = c .before .before .before .before .before in
-    let v = told .before .before in
-    let d = v .before .before .before in
-    let z = laid d .before .before .before .before .before .before in
-    may-run _ (sharing (z .args .r) (z .args .g) (z .args .kind) (z .args .el) (z .args .size)) (now (z .args .addresses)) (now (z .args .outputs)) (now (z .args .numbers)) _ (sym (v .verdict-of .ensures) ∙ told .enum-told .given .1) (search needs) (held (laid d .lay-out .ensures) (readable d))
+    let d = c .before .before .before .before .before .before .before in
+    let z = begun d .args in
+    let equal = lists-equal _ (shared d) (now (z .addresses)) (now (z .outputs)) (now (z .numbers)) (accepted d) in (
+      c .before .before .before .before .before .before .prepared1 .ensures .1,
+      c .before .before .before .before .before .prepared2 .ensures .1,
+      size-listed _ (shared d) (now (z .addresses)) (now (z .outputs)) (now (z .numbers)) (accepted d),
+      held (laid (read d) .lay-out .ensures) (readable (read d)) (not-high _ (shared d) (now (z .addresses)) (now (z .outputs)) (now (z .numbers)) (accepted d)),
+      search needs,
+      equal .0,
+      equal .1,
+    )
 
 returns-2 : tie.Need-returns-2
 returns-2 c =
     let v = c .before .before .before in
-    let d = v .before .before .before in
-    let told = tells-refused _ _ _ _ _ _ (sym (v .verdict-of .ensures) ∙ c .before .verdict .given .1) in
-    (core-tells _ _ _ _ (laid d .lay-out .ensures) (readable d) told, promised _ _ _ _ _ _)
+    let e = v .before .before .before in
+    let refused = tells-refused _ _ _ _ _ _ (sym (v .verdict-of .ensures) ∙ c .before .verdict .given .1) in
+    (core-tells _ _ _ _ (laid e .lay-out .ensures) (readable e) refused, promised _ _ _ _ _ _)
 
 returns-3 : tie.Need-returns-3
 returns-3 c =
     let each = c .before .before .before .before .before .before .before in
-    let told = each .before .before .before .before .before .before in
-    let v = told .before .before in
-    let d = v .before .before .before in
-    let e = each .each .ensures in
-    let filled = tells-filled _ _ _ _ _ _ (sym (v .verdict-of .ensures) ∙ told .enum-told .given .1) (record { figures = c .count .ensures ∙ ap ledger (e .numbered); placed = e .placed; numbered = e .numbered }) in
-    (core-tells _ _ _ _ (laid d .lay-out .ensures) (readable d) filled, promised _ _ _ _ _ _)
+    let q = each .before .before .before .before .before .before in
+    let d = q .before .before in
+    let e = read d in
+    let z = begun d .args in
+    let settings = may-prepare _ (shared d) (now (z .addresses)) (now (z .outputs)) (now (z .numbers)) (accepted d) in
+    let filled = filled-by _ (shared d) settings (now (z .addresses)) (λ i less. omega (arith, laid e .before .before .before .before .shared-slice-known2 .given i)) (q .before .prepared1 .ensures .0) (q .prepared2 .ensures .0) (each .each .ensures) (c .count .ensures) in
+    (core-tells _ _ _ _ (laid e .lay-out .ensures) (readable e) (tells-filled _ _ _ _ _ _ (accepted d) filled), promised _ _ _ _ _ _)
 
 pub run-core-spec : {M : Type 1} → statement M
 run-core-spec =
@@ -62,9 +87,11 @@ run-core-spec =
     (λ c κs. search needs)
     (λ c. search needs)
     (λ c. search needs)
+    (λ c κs. let z = begun c .args in may-prepare _ (shared c) (now (z .addresses)) (now (z .outputs)) (now (z .numbers)) (accepted c))
+    (λ c κs. search needs)
     (λ c. search needs)
     (λ c. search needs)
-    (λ c. let k = few-banks (c .before .before .before .before .before .before) in search needs)
+    (λ c. let k = few-banks (read (c .before .before .before)) in search needs)
     (λ c. search needs)
     each-requires
     (λ c κs. search needs)
