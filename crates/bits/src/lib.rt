@@ -34,14 +34,3 @@ pub fn upper(x: u64, low: u64) -> u64
         0
     }
 }
-
-// Some bit of x from low up to 47 is set.
-pub fn beyond(x: u64, low: u64) -> bool
-    ensures { λ r. ⌜ r ≡ Bits.beyond x low ⌝ }
-{
-    if low < 48 {
-        0 < x % 0x1_0000_0000_0000 >> low
-    } else {
-        false
-    }
-}
