@@ -69,23 +69,6 @@ module _ (high : Bool) (s : Shared) (addresses outputs numbers : List ℕ) where
   abbrev pub own : Verdict
   own = verdict (batchGrounds false high s (length addresses) (length outputs) (length numbers))
 
-  module _ (accepted : own ≡ Verdict.Accepted) where
-    passed : (unequal (length addresses) (length outputs) (length numbers) ≡ false) × (verdict (shared high (s .el2) (s .el1) (s .kind) (s .el) (s .size)) ≡ Verdict.Accepted)
-    unfolding refuse pick
-    passed = first-passed _ _ accepted
-
-    pub may-prepare : settings (s .el2) (s .el1) ≡ 0
-    may-prepare = accepted-settings high (s .el2) (s .el1) (s .kind) (s .el) (s .size) (passed .1)
-
-    pub size-listed : listedSize (s .size) ≡ true
-    size-listed = accepted-size high (s .el2) (s .el1) (s .kind) (s .el) (s .size) (passed .1)
-
-    pub not-high : high ≡ false
-    not-high = accepted-capture high (s .el2) (s .el1) (s .kind) (s .el) (s .size) (passed .1)
-
-    pub lists-equal : (length outputs ≡ length addresses) × (length numbers ≡ length addresses) × (length addresses ≤ 4096)
-    lists-equal = equal-lists (length addresses) (length outputs) (length numbers) (passed .0)
-
   module _ (m : Request → Read) where
     abbrev pub given : BatchTold
     given = batchOver m false high s addresses outputs numbers
@@ -106,6 +89,27 @@ module _ (high : Bool) (s : Shared) (addresses outputs numbers : List ℕ) where
           placed = f .placed ∙ sym (ap (λ (z : BatchTold). z .outputs) t);
           numbered = f .numbered ∙ sym (ap (λ (z : BatchTold). z .numbers) t);
         }
+
+-- what a batch that is accepted may be run with
+pub record Running (high : Bool) (s : Shared) (addresses outputs numbers : List ℕ) : Type 0 where
+  pub registers : settings (s .el2) (s .el1) ≡ 0
+  pub size : listedSize (s .size) ≡ true
+  pub low : high ≡ false
+  pub placed : length outputs ≡ length addresses
+  pub numbered : length numbers ≡ length addresses
+
+pub running : {high : Bool} {s : Shared} {addresses outputs numbers : List ℕ} → own high s addresses outputs numbers ≡ Verdict.Accepted → Running high s addresses outputs numbers
+unfolding refuse pick
+running {high} {s} {addresses} {outputs} {numbers} accepted =
+    let p = first-passed _ _ accepted in
+    let equal = equal-lists (length addresses) (length outputs) (length numbers) (p .0) in
+    record {
+      registers = accepted-settings high (s .el2) (s .el1) (s .kind) (s .el) (s .size) (p .1);
+      size = accepted-size high (s .el2) (s .el1) (s .kind) (s .el) (s .size) (p .1);
+      low = accepted-capture high (s .el2) (s .el1) (s .kind) (s .el) (s .size) (p .1);
+      placed = equal .0;
+      numbered = equal .1;
+    }
 
 -- lists that were filled by the stages as they were prepared
 module _ (m : Request → Read) (s : Shared) (accepted : settings (s .el2) (s .el1) ≡ 0) (addresses : List ℕ) (fit : (i : ℕ) → i < length addresses → getD addresses i 0 < 2 ^ 64)

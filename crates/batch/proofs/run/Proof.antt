@@ -8,7 +8,7 @@ use Rattle.layout.proofs.Raw.{raw-held}
 use Rattle.answers.specs.declared.Verdict.the-variants.{Accepted}
 use Rattle.batch.specs.Batch.{Shared, sharing}
 use Rattle.batch.proofs.Promises.{promised}
-use Rattle.batch.proofs.Telling.{own, may-prepare, size-listed, not-high, lists-equal, tells-refused, tells-filled, filled-by, raw-tells}
+use Rattle.batch.proofs.Telling.{own, Running, running, tells-refused, tells-filled, filled-by, raw-tells}
 use Rattle.batch.proofs.run.Statement.{statement}
 use Rattle.batch.proofs.run.Tie as tie
 
@@ -26,20 +26,21 @@ shared d = let z = begun d .args in sharing (z .r) (z .g) (z .kind) (z .el) (z .
 accepted : (d : tie.After-enum-told) → let z = begun d .args in own (told d .before .ends-high .result) (shared d) (now (z .addresses)) (now (z .outputs)) (now (z .numbers)) ≡ Accepted
 accepted d = sym (told d .verdict-of .ensures) ∙ d .enum-told .given .1
 
+runs : (d : tie.After-enum-told) → let z = begun d .args in Running (told d .before .ends-high .result) (shared d) (now (z .addresses)) (now (z .outputs)) (now (z .numbers))
+runs d = running (accepted d)
+
 each-requires : tie.Need-each-requires
 each-requires c κs =
     let d = c .before .before .before .before .before .before .before in
     let v = told d in
-    let z = begun d .args in
-    let equal = lists-equal _ (shared d) (now (z .addresses)) (now (z .outputs)) (now (z .numbers)) (accepted d) in (
+    let z = begun d .args in (
       c .before .before .before .before .before .before .prepared1 .ensures .1,
       c .before .before .before .before .before .prepared2 .ensures .1,
-      size-listed _ (shared d) (now (z .addresses)) (now (z .outputs)) (now (z .numbers)) (accepted d),
-      rw (v .before .before .whole .ensures)
-          (raw-held (z .base) (now (z .bytes)) (sym (v .before .ends-high .ensures) ∙ not-high _ (shared d) (now (z .addresses)) (now (z .outputs)) (now (z .numbers)) (accepted d))),
+      runs d .size,
+      rw (v .before .before .whole .ensures) (raw-held (z .base) (now (z .bytes)) (sym (v .before .ends-high .ensures) ∙ runs d .low)),
       search needs,
-      equal .0,
-      equal .1,
+      runs d .placed,
+      runs d .numbered,
     )
 
 returns : tie.Need-returns
@@ -54,9 +55,7 @@ returns-2 c =
     let q = each .before .before .before .before .before .before in
     let d = q .before .before in
     let v = told d in
-    let z = begun d .args in
-    let settings = may-prepare _ (shared d) (now (z .addresses)) (now (z .outputs)) (now (z .numbers)) (accepted d) in
-    let filled = filled-by _ (shared d) settings (now (z .addresses)) (λ i less. omega (arith, v .before .before .before .before .before .shared-slice-known2 .given i)) (q .before .prepared1 .ensures .0) (q .prepared2 .ensures .0) (each .each .ensures) (c .count .ensures) in
+    let filled = filled-by _ (shared d) (runs d .registers) (now (begun d .args .addresses)) (λ i less. omega (arith, v .before .before .before .before .before .shared-slice-known2 .given i)) (q .before .prepared1 .ensures .0) (q .prepared2 .ensures .0) (each .each .ensures) (c .count .ensures) in
     (raw-tells _ _ _ _ _ _ (v .before .before .whole .ensures) (v .before .ends-high .ensures) (tells-filled _ _ _ _ _ _ (accepted d) filled), promised _ _ _ _ _ _)
 
 pub run-spec : {M : Type 1} → statement M
@@ -68,7 +67,7 @@ run-spec =
     (λ c κs. search needs)
     (λ c. search needs)
     (λ c. search needs)
-    (λ c κs. let z = begun c .args in may-prepare _ (shared c) (now (z .addresses)) (now (z .outputs)) (now (z .numbers)) (accepted c))
+    (λ c κs. runs c .registers)
     (λ c κs. search needs)
     (λ c. search needs)
     (λ c. search needs)

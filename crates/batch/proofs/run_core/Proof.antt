@@ -11,7 +11,7 @@ use Rattle.layout.proofs.Core.{few, held}
 use Rattle.answers.specs.declared.Verdict.the-variants.{Accepted}
 use Rattle.batch.specs.Batch.{Shared, sharing}
 use Rattle.batch.proofs.Promises.{promised}
-use Rattle.batch.proofs.Telling.{own, may-prepare, size-listed, not-high, lists-equal, tells-refused, tells-filled, filled-by, core-tells, core-refused}
+use Rattle.batch.proofs.Telling.{own, Running, running, tells-refused, tells-filled, filled-by, core-tells, core-refused}
 use Rattle.batch.proofs.run_core.Statement.{statement}
 use Rattle.batch.proofs.run_core.Tie as tie
 
@@ -44,18 +44,20 @@ accepted : (d : tie.After-enum-told) →
     let z = begun d .args in own (laid (read d) .lay-out .result .high) (shared d) (now (z .addresses)) (now (z .outputs)) (now (z .numbers)) ≡ Accepted
 accepted d = sym (told d .verdict-of .ensures) ∙ d .enum-told .given .1
 
+runs : (d : tie.After-enum-told) →
+    let z = begun d .args in Running (laid (read d) .lay-out .result .high) (shared d) (now (z .addresses)) (now (z .outputs)) (now (z .numbers))
+runs d = running (accepted d)
+
 each-requires : tie.Need-each-requires
 each-requires c κs =
-    let d = c .before .before .before .before .before .before .before in
-    let z = begun d .args in
-    let equal = lists-equal _ (shared d) (now (z .addresses)) (now (z .outputs)) (now (z .numbers)) (accepted d) in (
+    let d = c .before .before .before .before .before .before .before in (
       c .before .before .before .before .before .before .prepared1 .ensures .1,
       c .before .before .before .before .before .prepared2 .ensures .1,
-      size-listed _ (shared d) (now (z .addresses)) (now (z .outputs)) (now (z .numbers)) (accepted d),
-      held (laid (read d) .lay-out .ensures) (readable (read d)) (not-high _ (shared d) (now (z .addresses)) (now (z .outputs)) (now (z .numbers)) (accepted d)),
+      runs d .size,
+      held (laid (read d) .lay-out .ensures) (readable (read d)) (runs d .low),
       search needs,
-      equal .0,
-      equal .1,
+      runs d .placed,
+      runs d .numbered,
     )
 
 returns-2 : tie.Need-returns-2
@@ -71,9 +73,7 @@ returns-3 c =
     let q = each .before .before .before .before .before .before in
     let d = q .before .before in
     let e = read d in
-    let z = begun d .args in
-    let settings = may-prepare _ (shared d) (now (z .addresses)) (now (z .outputs)) (now (z .numbers)) (accepted d) in
-    let filled = filled-by _ (shared d) settings (now (z .addresses)) (λ i less. omega (arith, laid e .before .before .before .before .shared-slice-known2 .given i)) (q .before .prepared1 .ensures .0) (q .prepared2 .ensures .0) (each .each .ensures) (c .count .ensures) in
+    let filled = filled-by _ (shared d) (runs d .registers) (now (begun d .args .addresses)) (λ i less. omega (arith, laid e .before .before .before .before .shared-slice-known2 .given i)) (q .before .prepared1 .ensures .0) (q .prepared2 .ensures .0) (each .each .ensures) (c .count .ensures) in
     (core-tells _ _ _ _ (laid e .lay-out .ensures) (readable e) (tells-filled _ _ _ _ _ _ (accepted d) filled), promised _ _ _ _ _ _)
 
 pub run-core-spec : {M : Type 1} → statement M
@@ -87,7 +87,7 @@ run-core-spec =
     (λ c κs. search needs)
     (λ c. search needs)
     (λ c. search needs)
-    (λ c κs. let z = begun c .args in may-prepare _ (shared c) (now (z .addresses)) (now (z .outputs)) (now (z .numbers)) (accepted c))
+    (λ c κs. runs c .registers)
     (λ c κs. search needs)
     (λ c. search needs)
     (λ c. search needs)
