@@ -2,7 +2,7 @@
 use crate::batch::Batch;
 use crate::memory::{Banks, Core, ELF_HEADER, MOST_BANKS, PROGRAM_HEADER};
 use crate::one_by_one::one_by_one;
-use crate::proved::{self, BatchWords, Question, Words};
+use crate::proved::{self, BatchWords, Capture, Question, Words};
 use crate::question::ask_core;
 use crate::random::Random;
 use crate::straight::LOG;
@@ -15,6 +15,11 @@ pub const QUESTIONS: usize = BATCH / 8;
 /// A bank for each page of a hot workload, or all of it in one.
 pub const COUNTS: [usize; 2] = [1, MOST_BANKS];
 
+/// Where the banks' bytes begin in a file with so many banks: behind the headers.
+pub fn first_byte(count: usize) -> usize {
+    ELF_HEADER + count * PROGRAM_HEADER
+}
+
 /// A core file of a workload's capture, cut into so many banks of one size. In the file they are in random order.
 pub fn build(workload: &Workload, count: usize, seed: u64) -> Vec<u8> {
     let capture = workload.capture();
@@ -23,7 +28,7 @@ pub fn build(workload: &Workload, count: usize, seed: u64) -> Vec<u8> {
     for i in (1..count).rev() {
         places.swap(i, random.below(i as u64 + 1) as usize);
     }
-    let (size, first) = (capture.bytes.len() / count, ELF_HEADER + count * PROGRAM_HEADER);
+    let (size, first) = (capture.bytes.len() / count, first_byte(count));
     let mut file = vec![0; first + capture.bytes.len()];
     file[..6].copy_from_slice(b"\x7fELF\x02\x01");
     for (at, number) in [(16, 4), (18, 183), (32, ELF_HEADER), (54, PROGRAM_HEADER), (56, count)] {
@@ -46,12 +51,12 @@ fn rust_batch<const HALVING: bool>(q: &Question, file: &[u8], addresses: &[u64],
     Batch::new(q, Banks::<HALVING>(&core.banks)).run(addresses, outputs, numbers, &mut [0; LOG]);
 }
 
-fn done(words: BatchWords) {
+pub fn done(words: BatchWords) {
     assert_eq!(words.number, 0, "the batch is accepted");
 }
 
 /// Both lists as a batch fills them.
-fn filled(run: impl FnOnce(&mut [u64], &mut [u64])) -> (Vec<u64>, Vec<u64>) {
+pub fn filled(run: impl FnOnce(&mut [u64], &mut [u64])) -> (Vec<u64>, Vec<u64>) {
     // Filled with what no answer holds, so that an entry that is not written is seen.
     let (mut outputs, mut numbers) = (vec![u64::MAX; BATCH], vec![u64::MAX; BATCH]);
     run(&mut outputs, &mut numbers);
@@ -59,14 +64,29 @@ fn filled(run: impl FnOnce(&mut [u64], &mut [u64])) -> (Vec<u64>, Vec<u64>) {
 }
 
 /// An answer with its log.
-fn asked(ask: impl FnOnce(&mut [u64]) -> Words) -> (Words, Vec<u64>) {
+pub fn asked(ask: impl FnOnce(&mut [u64]) -> Words) -> (Words, Vec<u64>) {
     let mut log = vec![u64::MAX; LOG];
     (ask(&mut log), log)
 }
 
+/// The bank of a file that has one alone, as a raw capture: the same bytes elsewhere in memory may take longer or shorter.
+pub fn lone(file: &[u8], base: u64) -> Capture<'_> {
+    Capture { base, bytes: &file[first_byte(1)..] }
+}
+
+/// The raw capture that a core file is held against: its own bytes, or the workload's where the file has them in another order.
+fn raw<'a>(workload: &'a Workload, file: &'a [u8], count: usize) -> Capture<'a> {
+    let capture = workload.capture();
+    if count == 1 {
+        lone(file, capture.base)
+    } else {
+        capture
+    }
+}
+
 /// All must say of the core file what the proved ones say of the raw capture.
-pub fn agree(workload: &Workload, file: &[u8]) -> Result<(), String> {
-    let (q, capture) = (&workload.question, workload.capture());
+pub fn agree(workload: &Workload, file: &[u8], count: usize) -> Result<(), String> {
+    let (q, capture) = (&workload.question, raw(workload, file, count));
     for addresses in &workload.batches {
         let raw = filled(|outputs, numbers| done(proved::batch(q, capture, addresses, outputs, numbers)));
         let core = filled(|outputs, numbers| done(proved::batch_core(q, file, addresses, outputs, numbers)));
@@ -144,8 +164,8 @@ impl Medians {
 const WAYS: usize = 8;
 
 /// Of batches, and of questions. In each round all eight take a batch, each another one, in turning order.
-pub fn measure(workload: &Workload, file: &[u8], rounds: usize) -> (Medians, Medians) {
-    let (q, capture) = (&workload.question, workload.capture());
+pub fn measure(workload: &Workload, file: &[u8], count: usize, rounds: usize) -> (Medians, Medians) {
+    let (q, capture) = (&workload.question, raw(workload, file, count));
     let (mut outputs, mut numbers, mut log) = (vec![0; BATCH], vec![0; BATCH], [0; LOG]);
     let times = interleaved::<WAYS>(BATCHES, rounds, |way, round| {
         let addresses = &workload.batches[(round + way * BATCHES / WAYS) % BATCHES];

@@ -1,10 +1,11 @@
 //! Measures the compiled proved walk and audit against straightforward ones in Rust.
 //!
-//!     bench [--quick] [--rounds N]
+//!     bench [--quick] [--rounds N] [--earlier FOLDER]
 //!
 //! All four ways (the proved batch and one in Rust, the proved question and one in Rust called for each address) must first give
 //! the same answers. Then they are timed in one run, and ratios of median times are printed. The same is done for the largest audits,
-//! the proved one and one in Rust, and for core files of the hot workloads' captures. Status 1 if answers differ, 2 for wrong arguments.
+//! the proved one and one in Rust, and for core files of the hot workloads' captures. With a folder that tools/earlier filled, this
+//! build is measured against an earlier one in the place of all that. Status 1 if answers differ, 2 for wrong arguments.
 mod attributes;
 mod audit;
 mod audits;
@@ -12,6 +13,8 @@ mod batch;
 mod check;
 mod cores;
 mod decode;
+mod earlier;
+mod library;
 mod memory;
 mod one_by_one;
 mod proved;
@@ -25,6 +28,7 @@ mod timing;
 mod workloads;
 
 use audit::{MOST_GRANTS, MOST_TABLES};
+use std::path::{Path, PathBuf};
 use std::process::exit;
 use workloads::BATCH;
 
@@ -39,24 +43,27 @@ const LEAST_AUDITS: usize = 3;
 struct Arguments {
     quick: bool,
     rounds: usize,
+    /// Where an earlier build is.
+    earlier: Option<PathBuf>,
 }
 
 fn usage() -> ! {
-    eprintln!("usage: bench [--quick] [--rounds N], N at least 1");
+    eprintln!("usage: bench [--quick] [--rounds N] [--earlier FOLDER], N at least 1");
     exit(2);
 }
 
 fn arguments() -> Arguments {
-    let (mut quick, mut rounds) = (false, None);
+    let (mut quick, mut rounds, mut earlier) = (false, None, None);
     let mut given = std::env::args().skip(1);
     while let Some(one) = given.next() {
         match one.as_str() {
             "--quick" => quick = true,
             "--rounds" => rounds = Some(given.next().and_then(|n| n.parse().ok()).filter(|n| *n > 0).unwrap_or_else(|| usage())),
+            "--earlier" => earlier = Some(given.next().map(PathBuf::from).unwrap_or_else(|| usage())),
             _ => usage(),
         }
     }
-    Arguments { quick, rounds: rounds.unwrap_or(if quick { QUICK_ROUNDS } else { ROUNDS }) }
+    Arguments { quick, rounds: rounds.unwrap_or(if quick { QUICK_ROUNDS } else { ROUNDS }), earlier }
 }
 
 fn differ(name: &str, difference: String) -> ! {
@@ -105,8 +112,8 @@ fn cores(rounds: usize) {
         let workload = workloads::build(&plan, SEED);
         for banks in cores::COUNTS {
             let file = cores::build(&workload, banks, SEED);
-            cores::agree(&workload, &file).unwrap_or_else(|difference| differ(plan.name, difference));
-            let (batch, question) = cores::measure(&workload, &file, rounds);
+            cores::agree(&workload, &file, banks).unwrap_or_else(|difference| differ(plan.name, difference));
+            let (batch, question) = cores::measure(&workload, &file, banks, rounds);
             let ratios =
                 |m: &cores::Medians| format!("{:.2} | {:.2} | {:.2} | {:.0}", m.core / m.raw, m.core / m.scan, m.core / m.halving, m.core);
             println!("| {} | {banks} | {} | {} |", plan.name, ratios(&batch), ratios(&question));
@@ -127,8 +134,38 @@ fn audits(rounds: usize) {
     }
 }
 
+/// This build against an earlier one.
+fn against(folder: &Path, quick: bool, rounds: usize) {
+    let pairs = earlier::load(folder).unwrap_or_else(|why| {
+        eprintln!("{why}\nRun tools/bench --before COMMIT, which puts both builds there.");
+        exit(2);
+    });
+    println!(
+        "This build to the earlier one, over the same bytes: median times of {rounds} interleaved rounds at each of {} places in a cache line.",
+        pairs.len()
+    );
+    println!("The mean of the places, in brackets the lowest and the highest. Above 1 this build is slower. A core file has one bank.");
+    if !earlier::knows_core_files(&pairs) {
+        println!("The earlier build knows no core files: what this build takes over one is held against what it took over the raw capture.");
+    }
+    println!();
+    println!("| workload | raw batch | core batch | raw question | core question |");
+    println!("|---|---|---|---|---|");
+    for plan in workloads::plans(quick) {
+        let workload = workloads::build(&plan, SEED);
+        let captures = earlier::Captures::of(&workload, SEED);
+        earlier::agree(&pairs, &workload, &captures).unwrap_or_else(|difference| differ(plan.name, difference));
+        let times = earlier::measure(&pairs, &workload, &captures, rounds);
+        let [raw_batch, core_batch, raw_question, core_question] = earlier::ratios(&times);
+        println!("| {} | {raw_batch} | {core_batch} | {raw_question} | {core_question} |", plan.name);
+    }
+}
+
 fn main() {
-    let Arguments { quick, rounds } = arguments();
+    let Arguments { quick, rounds, earlier } = arguments();
+    if let Some(folder) = earlier {
+        return against(&folder, quick, rounds);
+    }
     walks(quick, rounds);
     println!();
     cores(rounds);

@@ -39,17 +39,17 @@ pub struct Question {
 }
 
 impl Question {
-    fn el2(&self) -> El2 {
+    pub fn el2(&self) -> El2 {
         let Question { pamax, hcr_el2, vtcr_el2, vttbr_el2, sctlr_el2, .. } = *self;
         El2 { pamax, hcr_el2, vtcr_el2, vttbr_el2, sctlr_el2 }
     }
 
-    fn el1(&self) -> El1 {
+    pub fn el1(&self) -> El1 {
         let Question { sctlr_el1, tcr_el1, ttbr0_el1, ttbr1_el1, mair_el1, .. } = *self;
         El1 { sctlr_el1, tcr_el1, ttbr0_el1, ttbr1_el1, mair_el1 }
     }
 
-    fn access(&self, address: u64) -> Access {
+    pub fn access(&self, address: u64) -> Access {
         Access { address, kind: self.kind, el: self.el, size: self.size }
     }
 }

@@ -20,7 +20,7 @@ pub struct Medians {
     pub proved_question: f64,
 }
 
-fn median(mut times: Vec<f64>) -> f64 {
+pub fn median(mut times: Vec<f64>) -> f64 {
     times.sort_by(f64::total_cmp);
     times[times.len() / 2]
 }
@@ -31,9 +31,8 @@ pub fn nanoseconds(run: impl FnOnce()) -> f64 {
     start.elapsed().as_nanos() as f64
 }
 
-/// Each way's median of what `timed` says for a way and a round. The ways take turns in being first, and the rounds of the warm-up do
-/// not count.
-pub fn interleaved<const WAYS: usize>(warm_up: usize, rounds: usize, mut timed: impl FnMut(usize, usize) -> f64) -> [f64; WAYS] {
+/// What `timed` says for each way and round. The ways take turns in being first, and the rounds of the warm-up do not count.
+pub fn interleaved_times<const WAYS: usize>(warm_up: usize, rounds: usize, mut timed: impl FnMut(usize, usize) -> f64) -> [Vec<f64>; WAYS] {
     let mut times = [(); WAYS].map(|()| Vec::new());
     for round in 0..warm_up + rounds {
         for turn in 0..WAYS {
@@ -44,7 +43,12 @@ pub fn interleaved<const WAYS: usize>(warm_up: usize, rounds: usize, mut timed: 
             }
         }
     }
-    times.map(median)
+    times
+}
+
+/// Each way's median of that.
+pub fn interleaved<const WAYS: usize>(warm_up: usize, rounds: usize, timed: impl FnMut(usize, usize) -> f64) -> [f64; WAYS] {
+    interleaved_times(warm_up, rounds, timed).map(median)
 }
 
 /// Lists and log that all ways are lent.
