@@ -146,7 +146,9 @@ fn against(folder: &Path, quick: bool, rounds: usize) {
     );
     println!("The mean of the places, in brackets the lowest and the highest. Above 1 this build is slower. A core file has one bank.");
     if !earlier::knows_core_files(&pairs) {
-        println!("The earlier build knows no core files: what this build takes over one is held against what it took over the raw capture.");
+        println!(
+            "The earlier build knows no core files: what this build takes over one is held against what it took over the raw capture."
+        );
     }
     println!();
     println!("| workload | raw batch | core batch | raw question | core question |");
