@@ -3,6 +3,7 @@ pub mod Banks
 pub mod Headed
 pub mod Headers
 pub mod Steps
+pub mod InOrder
 pub mod Parts
 pub mod Bounds
 pub mod Raw

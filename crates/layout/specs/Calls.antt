@@ -1,7 +1,7 @@
 -- For the contracts of code: banks and parts as words, three for each, side by side.
 -- Assumes nothing.
 use mathlib.Core.Path.{_≡_}
-use mathlib.Core.Bool.{true, false, _&&_}
+use mathlib.Core.Bool.{Bool, true, false, _&&_}
 use mathlib.Core.List.{List, [], _∷_}
 use Prim.Native.Nat.{ℕ, zero, suc, _+_, _*_, _≤_, _<_}
 use lib.Dec.{leb, eqb}
@@ -38,6 +38,11 @@ banksOn words i (suc n) = bankBy words i ∷ banksOn words (suc i) n
 
 abbrev pub banksBy : (words : List ℕ) → List Bank
 banksBy words = banksOn words 0 (countOf words)
+
+-- each part stands in the file at or past the end of the one before it, the first at or past a place
+unfoldable pub inOrder : (end : ℕ) → List Part → Bool
+inOrder end [] = true
+inOrder end (p ∷ l) = leb end (p .from) && inOrder (p .to) l
 
 -- n program headers from one place on lie in a file of so many bytes
 abbrev pub There : (at n length : ℕ) → Type 0

@@ -1,17 +1,19 @@
--- `apart` meets its contract: a bank that shares no byte with those after it leaves the verdict to them.
+-- `apart` meets its contract: banks in order share no byte, and else one that shares none with those after it leaves the verdict to them.
 -- Assumes nothing.
 use borrow.Author.Needs.{needs}
 use borrow.Author.Tests.{not-true, not-false}
-use mathlib.Core.Path.{_≡_}
-use mathlib.Core.Bool.{Bool, _&&_}
+use mathlib.Core.Path.{_≡_, sym}
+use mathlib.Core.Bool.{Bool, true, _&&_}
 use mathlib.Core.List.{List, map}
 use Prim.Native.Nat.{ℕ, _+_, _-_, _<_}
+use Rattle.bits.proofs.Tests.{told}
 use Rattle.capture.specs.Capture.{part}
 use Rattle.capture.specs.Calls.{countOf}
 use Rattle.capture.specs.declared.Part.{Part}
 use Rattle.layout.specs.Elf as Elf
-use Rattle.layout.specs.Calls.{bankBy, banksBy}
+use Rattle.layout.specs.Calls.{bankBy, banksBy, inOrder}
 use Rattle.layout.proofs.Steps.{from, from-next, from-end, from-start}
+use Rattle.layout.proofs.InOrder.{in-order-apart}
 use Rattle.layout.proofs.apart.apart.Statement.{statement}
 use Rattle.layout.proofs.apart.apart.Tie as tie
 
@@ -32,6 +34,9 @@ module _ (total : ℕ) (words : List ℕ) where
   unfolding Elf.apart
   step i h d at answer e = rw (from-next words i h, ← at, ← answer, e) at d
 
+  ordered : {r : Bool} → r ≡ inOrder 0 (map (part total) (banksBy words)) → r ≡ true → true ≡ whole
+  ordered answer e = sym (in-order-apart total (banksBy words) 0 (told answer e))
+
   started : Deciding 0
   started = rw (from-start words)
 
@@ -48,16 +53,18 @@ apart-spec =
     (tie.spec
     Inv-loop
     μ-loop
+    (λ c κs. search needs)
+    (λ c. ordered _ _ (c .before .in-order .ensures) (c .if1 .taken))
     (λ c. started _ _)
     (λ c κs. search needs)
     (λ c. search needs)
     (λ c κs. search needs)
     (λ c.
     let l = c .before .before .before in
-    step _ _ _ (l .loop-test .taken) (l .before .loop .inv) (c .before .before .part-of .ensures) (c .before .clear .ensures) (not-true _ (c .if1 .taken)))
+    step _ _ _ (l .loop-test .taken) (l .before .loop .inv) (c .before .before .part-of .ensures) (c .before .clear .ensures) (not-true _ (c .if2 .taken)))
     (λ c. search needs)
     (λ c. search needs)
     (λ c.
     let l = c .before .before .before in
-    step _ _ _ (l .loop-test .taken) (l .before .loop .inv) (c .before .before .part-of .ensures) (c .before .clear .ensures) (not-false _ (c .if1 .left)))
+    step _ _ _ (l .loop-test .taken) (l .before .loop .inv) (c .before .before .part-of .ensures) (c .before .clear .ensures) (not-false _ (c .if2 .left)))
     (λ c. rw (from-end _ _ (c .loop-test .left)) at (c .before .loop .inv)))
