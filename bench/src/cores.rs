@@ -12,21 +12,36 @@ use crate::workloads::{Workload, BATCH, BATCHES};
 /// Questions of a round. Each reads the headers anew, so that a whole batch of them would take long.
 pub const QUESTIONS: usize = BATCH / 8;
 
-/// A bank for each page of a hot workload, or all of it in one.
-pub const COUNTS: [usize; 2] = [1, MOST_BANKS];
+/// How a capture is cut into a core file.
+#[derive(Clone, Copy)]
+pub struct Cut {
+    pub name: &'static str,
+    pub banks: usize,
+    /// The banks stand in the file in another order than in memory.
+    shuffled: bool,
+}
+
+/// All of a capture in one bank.
+pub const WHOLE: Cut = Cut { name: "1", banks: 1, shuffled: false };
+
+/// The cuts that are measured. With the most banks each page of a hot workload is one.
+pub const CUTS: [Cut; 3] =
+    [WHOLE, Cut { name: "64", banks: MOST_BANKS, shuffled: false }, Cut { name: "64, shuffled", banks: MOST_BANKS, shuffled: true }];
 
 /// Where the banks' bytes begin in a file with so many banks: behind the headers.
 pub fn first_byte(count: usize) -> usize {
     ELF_HEADER + count * PROGRAM_HEADER
 }
 
-/// A core file of a workload's capture, cut into so many banks of one size. In the file they are in random order.
-pub fn build(workload: &Workload, count: usize, seed: u64) -> Vec<u8> {
-    let capture = workload.capture();
+/// A core file of a workload's capture, cut into banks of one size.
+pub fn build(workload: &Workload, cut: Cut, seed: u64) -> Vec<u8> {
+    let (capture, count) = (workload.capture(), cut.banks);
     let mut random = Random::new(seed);
     let mut places: Vec<usize> = (0..count).collect();
-    for i in (1..count).rev() {
-        places.swap(i, random.below(i as u64 + 1) as usize);
+    if cut.shuffled {
+        for i in (1..count).rev() {
+            places.swap(i, random.below(i as u64 + 1) as usize);
+        }
     }
     let (size, first) = (capture.bytes.len() / count, first_byte(count));
     let mut file = vec![0; first + capture.bytes.len()];

@@ -2,7 +2,7 @@
 //!
 //! Each build stands at several places: how long code takes depends on where it stands in a cache line, which every edit changes. A
 //! build's time is the mean over its places.
-use crate::cores;
+use crate::cores::{self, WHOLE};
 use crate::library::{Library, Memory};
 use crate::one_by_one::one_by_one;
 use crate::straight::LOG;
@@ -42,7 +42,7 @@ pub struct Captures {
 
 impl Captures {
     pub fn of(workload: &Workload, seed: u64) -> Captures {
-        Captures { file: cores::build(workload, 1, seed), base: workload.capture().base }
+        Captures { file: cores::build(workload, WHOLE, seed), base: workload.capture().base }
     }
 
     fn raw(&self) -> Memory<'_> {

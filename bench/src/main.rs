@@ -110,13 +110,13 @@ fn cores(rounds: usize) {
     println!("|---|---|---|---|---|---|---|---|---|---|");
     for plan in workloads::plans(true).into_iter().take(2) {
         let workload = workloads::build(&plan, SEED);
-        for banks in cores::COUNTS {
-            let file = cores::build(&workload, banks, SEED);
-            cores::agree(&workload, &file, banks).unwrap_or_else(|difference| differ(plan.name, difference));
-            let (batch, question) = cores::measure(&workload, &file, banks, rounds);
+        for cut in cores::CUTS {
+            let file = cores::build(&workload, cut, SEED);
+            cores::agree(&workload, &file, cut.banks).unwrap_or_else(|difference| differ(plan.name, difference));
+            let (batch, question) = cores::measure(&workload, &file, cut.banks, rounds);
             let ratios =
                 |m: &cores::Medians| format!("{:.2} | {:.2} | {:.2} | {:.0}", m.core / m.raw, m.core / m.scan, m.core / m.halving, m.core);
-            println!("| {} | {banks} | {} | {} |", plan.name, ratios(&batch), ratios(&question));
+            println!("| {} | {} | {} | {} |", plan.name, cut.name, ratios(&batch), ratios(&question));
         }
     }
 }
