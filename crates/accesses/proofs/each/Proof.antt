@@ -1,25 +1,32 @@
 -- `each` meets its contract: what is stored from an address on is what is stored from the first.
 -- Assumes nothing.
 use borrow.Author.Needs.{needs, scaled-fits}
-use mathlib.Core.Path.{_∙_}
+use mathlib.Core.Path.{ap, _∙_}
 use Prim.Native.Nat.{ℕ, _-_}
 use native.Mathlib.Omega.{arith}
 use lib.ListN.{length}
 use Rattle.access.specs.declared.Access.{Access}
 use Rattle.capture.specs.Calls.{captured}
 use Rattle.walk.specs.Calls.{stage2Of}
+use Rattle.walk.specs.declared.end.End.{End}
 use Rattle.stages.specs.Calls.{stage1Of}
+use Rattle.stages.specs.declared.both.Arrival.{Arrival}
+use Rattle.stages.specs.declared.both.By.the-variants.{First}
 use Rattle.answers.specs.Answers.{number}
 use Rattle.answers.specs.Entries.{answerOf, outputOf}
 use Rattle.answers.proofs.Entries.{ran-number, ran-output}
 use Rattle.accesses.proofs.Filling.{Filling, filling-start, filling-next, filling-done}
-use Rattle.accesses.proofs.Runs.{Runs, runs-start, runs-next, runs-done}
+use Rattle.accesses.proofs.Runs.{Runs, runs-start, runs-next, runs-left, runs-ended, runs-none}
 use Rattle.accesses.proofs.each.Statement.{statement}
 use Rattle.accesses.proofs.each.Tie as tie
 
 -- the access to an address
 abbrev to : (kind el size address : ℕ) → Access
 to kind el size address = record { address = address; kind = kind; el = el; size = size }
+
+-- no access yet, but for how it ended
+abbrev unasked : End → Arrival
+unasked e = record { by = First; end = e; ipa = 0; left1 = 0; word1 = 0 }
 
 abbrev Inv-loop : tie.InvT-loop
 Inv-loop file front parts p q kind el size addresses outputs₀ numbers₀ log₀ last₀ i₀ outputs numbers log last i =
@@ -64,7 +71,9 @@ returns c =
     record {
       placed = filling-done _ _ _ _ _ over (p .5) (l .loop .inv .0);
       numbered = filling-done _ _ _ _ _ over (p .6) (l .loop .inv .1);
-      single = runs-done _ _ _ _ _ _ (l .loop .inv .2) over;
+      left = runs-left _ _ _ _ _ _ (l .loop .inv .2) over;
+      ended = runs-ended _ _ _ _ _ _ (l .loop .inv .2) over;
+      none = runs-none _ _ _ _ _ _ (l .loop .inv .2) over;
     }
 
 pub each-spec : {M : Type 1} → statement M
@@ -74,7 +83,7 @@ each-spec =
     Inv-loop
     μ-loop
     (λ c κs. search needs)
-    (λ c. (filling-start _ _ _, filling-start _ _ _, runs-start _ _ _ _ _ _ _))
+    (λ c. (filling-start _ _ _, filling-start _ _ _, runs-start _ _ _ _ _ _ (ap unasked (c .stopped .ensures))))
     (λ c. scaled-fits _ _ _ (c .loop-test .taken) (c .before .before .before .before .before .before .before .before .before .good .1 .1 .1 .1 .1 .1 .1 .1 .0 .1))
     (λ c. search needs)
     access-requires
