@@ -234,12 +234,11 @@ pub fn of_bank(length: u64, address: u64, offset: u64, size: u64) -> Part
 
 // How many bytes of a bank that is.
 pub fn kept(p: Part) -> u64
-    requires { ⌜ p .from ≤ p .to ⌝ }
     ensures { λ n. ⌜ n ≡ Captures.kept p ⌝ }
 {
     let from = p.from;
     let to = p.to;
-    (to - from) as u64
+    if from <= to { (to - from) as u64 } else { 0 }
 }
 
 // The whole of a file that stands at an address, in front.

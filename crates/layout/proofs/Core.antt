@@ -17,11 +17,11 @@ use Rattle.layout.specs.Layout.{core, layout, captured}
 use Rattle.layout.specs.Calls.{partWords, frontOf, Lays, Alone}
 use Rattle.layout.specs.declared.Laid.{Laid}
 use Rattle.layout.specs.declared.Lone.{Lone}
-use Rattle.layout.proofs.Parts.{parts-by, laid-held, front-spare, none-ascending, sole-captured}
+use Rattle.layout.proofs.Parts.{parts-by, laid-held, core-spare, none-ascending, sole-captured}
 
-pub core-captured : (file : List ℕ) → captured core file ≡ Calls.captured (ahead (frontOf (parts file))) (partWords (parts file)) file
+core-captured : (file : List ℕ) → isCore file ≡ true → captured core file ≡ Calls.captured (ahead (frontOf (parts file))) (partWords (parts file)) file
 unfolding layout
-core-captured file = sym (ap (λ l. memory (frontOf (parts file) ∷ l) file) (parts-by (parts file)) ∙ fun-ext (λ q. front-spare (parts file) file q))
+core-captured file e = sym (ap (λ l. memory (frontOf (parts file) ∷ l) file) (parts-by (parts file)) ∙ fun-ext (core-spare file e))
 
 core-readable : (file : List ℕ) → isCore file ≡ true → false ≡ layout core file .unreadable
 unfolding layout
@@ -48,7 +48,7 @@ module _ {file words′ : List ℕ} {r : Laid} (l : Lays file r words′) (reada
   held low = rw (l .front accepted, lent-words) (laid-held file accepted (sym (l .high accepted) ∙ low))
 
   pub laid-captured : Calls.captured (r .front) lent file ≡ captured core file
-  laid-captured = rw (l .front accepted, lent-words) (sym (core-captured file))
+  laid-captured = rw (l .front accepted, lent-words) (sym (core-captured file accepted))
 
   pub laid-high : r .high ≡ anyHigh (layout core file .banks)
   unfolding layout

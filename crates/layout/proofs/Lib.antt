@@ -4,6 +4,7 @@ pub mod Headed
 pub mod Headers
 pub mod Steps
 pub mod InOrder
+pub mod Front
 pub mod Parts
 pub mod Bounds
 pub mod Raw

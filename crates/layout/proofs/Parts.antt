@@ -7,19 +7,18 @@ use Prim.Native.Nat.{ℕ, zero, suc, _+_, _*_, _^_, _≤_, _<_}
 use native.Mathlib.Nat.{zero-add}
 use native.Mathlib.Omega.{arith}
 use lib.Dec.{leb}
-use lib.ListN.{length, getD, take, drop, length-map}
+use lib.ListN.{length, getD, take, drop}
 use lib.Seq.{sets, sets-eq, take-append-seam}
-use borrow.Author.Tests.{le-leb, lt-leb, leb-true, ltb-false}
-use Rattle.bits.specs.Bits.{pick}
+use borrow.Author.Tests.{leb-true, ltb-false}
 use Rattle.bits.proofs.Tests.{and-left, and-right}
 use Rattle.reads.specs.Program.{Request, All, nil, cons}
-use Rattle.reads.specs.declared.Read.{Read}
-use Rattle.capture.specs.Capture.{Bank, part, kept, endsHigh, anyHigh, within, memory}
+use Rattle.capture.specs.Capture.{Bank, part, kept, endsHigh, anyHigh, memory}
 use Rattle.capture.specs.Calls.{partAt, partsFrom, countOf, partsBy, ahead, Lies, Ascending, Held}
 use Rattle.capture.specs.declared.Part.{Part}
 use Rattle.capture.proofs.Lesser.{part-lies}
 use Rattle.layout.specs.Elf.{headed, banks, mostBanks, follows, ascend, parts, wellLaid, isCore}
 use Rattle.layout.specs.Calls.{saidWords, partWords, bankBy, banksOn, banksBy, frontOf}
+use Rattle.layout.proofs.Front.{Before, Rows, front-lies, front-sole, front-spare}
 
 -- ---- lists by their words
 
@@ -133,80 +132,61 @@ at-each [] a i h = absurd (omega arith)
 at-each (p ∷ l) (cons x a) zero h = x
 at-each (p ∷ l) (cons x a) (suc i) h = rw (part-past (p .address) (p .from) (p .to) (partWords l) i) (at-each l a i (omega arith))
 
-front-lies : (total : ℕ) (l : List Part) → All (Lies total) l → Lies total (frontOf l)
-unfolding frontOf
-front-lies total [] a = record { order = omega arith; inside = omega arith; fits = omega arith }
-front-lies total (p ∷ l) (cons x a) = x
+next : (p : Part) (l : List Part) (i : ℕ) → partAt (partWords (p ∷ l)) (suc i) ≡ partAt (partWords l) i
+unfolding partWords
+next p l i = part-past (p .address) (p .from) (p .to) (partWords l) i
 
--- banks in order: each starts at or past the end of any before it
-abbrev Before : Part → Part → Type 0
-Before p q = p .address + kept p ≤ q .address
+-- parts in order, by their places
+rows-order : (l : List Part) → Rows l → (i j : ℕ) → i < j → j < length l → Before (partAt (partWords l) i) (partAt (partWords l) j)
+unfolding Rows partWords
+rows-order [] r i j less h = absurd (omega arith)
+rows-order (p ∷ l) r i zero less h = absurd (omega arith)
+rows-order (p ∷ l) r zero (suc j) less h = subst (λ (x : Part). Before p x) (sym (next p l j)) (at-each l (r .0) j (omega arith))
+rows-order (p ∷ l) r (suc i) (suc j) less h =
+    let rest = rows-order l (r .1) i j (omega arith) (omega arith) in
+    subst (λ (x : Part). Before x (partAt (partWords (p ∷ l)) (suc j))) (sym (next p l i)) (subst (λ (x : Part). Before (partAt (partWords l) i) x) (sym (next p l j)) rest)
 
+-- the parts of banks in order: a part that ends by a bank's end ends by the start of every bank after it
 module _ (total : ℕ) where
-  abbrev placed : List Bank → ℕ → Part
-  placed l i = partAt (partWords (map (part total) l)) i
-
-  next-past : (b : Bank) (l : List Bank) (i : ℕ) → placed (b ∷ l) (suc i) ≡ placed l i
-  unfolding partWords
-  next-past b l i = part-past _ _ _ (partWords (map (part total) l)) i
-
-  starts-past : (b : Bank) (l : List Bank) → follows b l ≡ true → ascend l ≡ true → (j : ℕ) → j < length l → b .address + b .size ≤ placed l j .address
-  unfolding follows ascend partWords part
-  starts-past b [] f a j h = absurd (omega arith)
-  starts-past b (c ∷ l) f a zero h = leb-true _ _ f
-  starts-past b (c ∷ l) f a (suc j) h =
+  past : (p : Part) (b : Bank) (l : List Bank) → p .address + kept p ≤ b .address + b .size → follows b l ≡ true → ascend l ≡ true → All (Before p) (map (part total) l)
+  unfolding follows ascend part
+  past p b [] h f a = nil
+  past p b (c ∷ l) h f a =
       let k : b .address + b .size ≤ c .address = leb-true _ _ f in
-      let m = starts-past c l (and-left _ _ a) (and-right (follows c l) _ a) j (omega arith) in
-      subst (λ (p : Part). b .address + b .size ≤ p .address) (sym (next-past c l j)) (omega (arith, m))
+      let here : Before p (part total c) = omega (arith, h, k) in
+      cons here (past p c l (omega (arith, h, k)) (and-left _ _ a) (and-right (follows c l) _ a))
 
-  in-order : (l : List Bank) → ascend l ≡ true → (i j : ℕ) → i < j → j < length l → Before (placed l i) (placed l j)
-  unfolding ascend partWords part
-  in-order [] a i j less h = absurd (omega arith)
-  in-order (b ∷ l) a i zero less h = absurd (omega arith)
-  in-order (b ∷ l) a zero (suc j) less h =
-      let m = starts-past b l (and-left _ _ a) (and-right (follows b l) _ a) j (omega arith) in
-      let k = part-lies total b .2 in
-      subst (λ (p : Part). Before (part total b) p) (sym (next-past b l j)) (omega (arith, m, k))
-  in-order (b ∷ l) a (suc i) (suc j) less h =
-      let rest = in-order l (and-right (follows b l) _ a) i j (omega arith) (omega arith) in
-      subst (λ (p : Part). Before p (placed (b ∷ l) (suc j))) (sym (next-past b l i)) (subst (λ (p : Part). Before (placed l i) p) (sym (next-past b l j)) rest)
+  rows : (l : List Bank) → ascend l ≡ true → Rows (map (part total) l)
+  unfolding ascend Rows part
+  rows [] a = tt
+  rows (b ∷ l) a =
+      let size = part-lies total b .2 in
+      let rest = and-right (follows b l) _ a in
+      (past (part total b) b l (omega (arith, size)) (and-left _ _ a) rest, rows l rest)
 
 core-ascends : (file : List ℕ) → isCore file ≡ true → ascend (banks file) ≡ true
 unfolding isCore wellLaid
 core-ascends file e = and-left _ _ (and-left _ _ (and-left _ _ (and-right (headed file && leb (length (banks file)) mostBanks) _ e)))
 
+core-rows : (file : List ℕ) → isCore file ≡ true → Rows (parts file)
+core-rows file e = rows (length file) (banks file) (core-ascends file e)
+
 pub laid-held : (file : List ℕ) → isCore file ≡ true → anyHigh (banks file) ≡ false → Held (ahead (frontOf (parts file))) (partWords (parts file)) file
 laid-held file e low =
     let lie = all-lie file (banks file) low in
-    let n : countOf (partWords (parts file)) ≡ length (banks file) = part-count (parts file) ∙ length-map (banks file) (part (length file)) in
     record {
       leads = record { lies = front-lies (length file) (parts file) lie; back = refl };
       ascending =
           record {
             lie = λ i h. at-each (parts file) lie i (rw (part-count (parts file)) at h);
-            order = λ i j less h. in-order (length file) (banks file) (core-ascends file e) i j less (rw n at h);
+            order = λ i j less h. rows-order (parts file) (core-rows file e) i j less (rw (part-count (parts file)) at h);
           };
     }
 
--- ---- a part that is tried twice
+-- ---- trying the largest part first
 
--- no byte has no descriptor
-misses-all : (a : ℕ) → within 0 0 a ≡ false
-unfolding within
-misses-all a =
-    let first : 0 ≤ a = omega arith in
-    let past : 0 < a + 8 = omega arith in
-    rw (le-leb 0 a first, lt-leb (a + 8) 0 past)
-
-twice : (b : Bool) (x y : Read) → pick b x (pick b x y) ≡ pick b x y
-unfolding pick
-twice true x y = refl
-twice false x y = refl
-
-pub front-spare : (l : List Part) (file : List ℕ) (q : Request) → memory (frontOf l ∷ l) file q ≡ memory l file q
-unfolding frontOf memory pick
-front-spare [] file q = rw (misses-all (q .address))
-front-spare (p ∷ l) file q = twice (within (p .address) (kept p) (q .address)) _ _
+pub core-spare : (file : List ℕ) → isCore file ≡ true → (q : Request) → memory (frontOf (parts file) ∷ parts file) file q ≡ memory (parts file) file q
+core-spare file e q = front-spare (parts file) file q (core-rows file e)
 
 -- ---- one part, in front, and none by words
 
@@ -222,7 +202,6 @@ unfolding anyHigh
 one-high b = or-false (endsHigh (b .address) (b .size))
 
 pub sole-captured : (l : List Part) (file : List ℕ) → length l ≡ 1 → memory (frontOf l ∷ partsBy []) file ≡ memory l file
-unfolding frontOf
 sole-captured [] file n = absurd (omega (arith, n))
-sole-captured (p ∷ []) file n = one-part p file
+sole-captured (p ∷ []) file n = rw (front-sole p) (one-part p file)
 sole-captured (p ∷ q ∷ l) file n = absurd (omega (arith, n))

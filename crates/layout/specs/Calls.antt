@@ -8,7 +8,7 @@ use lib.Dec.{leb, eqb}
 use lib.ListN.{length, getD, take}
 use lib.Seq.{sets}
 use Rattle.bits.specs.Bits.{pick}
-use Rattle.capture.specs.Capture.{Bank, anyHigh}
+use Rattle.capture.specs.Capture.{Bank, kept, anyHigh}
 use Rattle.capture.specs.Calls.{countOf, partsBy, ahead}
 use Rattle.capture.specs.declared.Part.{Part}
 use Rattle.layout.specs.declared.Said.{Said}
@@ -58,13 +58,17 @@ pub record Tallies (file : List ℕ) (at n : ℕ) (t : Tally) : Type 0 where
   pub there : 0 < t .count → t .last + 56 ≤ length file
   pub sole : t .count ≡ 1 → banksFrom n at file ≡ bankAt (t .last) file ∷ []
 
--- the first part, or no byte where there is none
+-- the larger of two parts, the first of those that are alike
+abbrev pub larger : Part → Part → Part
+larger p q = pick (leb (kept q) (kept p)) p q
+
+-- the largest part, or no byte where there is none
 unfoldable pub frontOf : List Part → Part
 frontOf [] = record { address = 0; from = 0; to = 0 }
-frontOf (p ∷ l) = p
+frontOf (p ∷ l) = larger p (frontOf l)
 
-abbrev pub firstBy : (words : List ℕ) → Part
-firstBy words = frontOf (partsBy words)
+abbrev pub frontBy : (words : List ℕ) → Part
+frontBy words = frontOf (partsBy words)
 
 -- what is said of the headers of a file that is not accepted
 abbrev pub refusedHeaders : Said
@@ -77,7 +81,7 @@ pub record Reads (file words : List ℕ) (r : Said) (words′ : List ℕ) : Type
   pub count : r .count ≡ pick (isCore file) (length (banks file)) 0
   pub written : words′ ≡ pick (headed file && leb (length (banks file)) mostBanks) (sets words 0 (saidWords (banks file))) words
 
--- a call that laid out an accepted core file: whether a bank ends past 2^48, how many there are, the first part, and the words of all
+-- a call that laid out an accepted core file: whether a bank ends past 2^48, how many there are, the largest part, and the words of all
 pub record Lays (file : List ℕ) (r : Laid) (words′ : List ℕ) : Type 0 where
   pub readable : r .readable ≡ isCore file
   pub high : isCore file ≡ true → r .high ≡ anyHigh (banks file)

@@ -5,10 +5,11 @@ use capture::Front;
 use capture::Part;
 ghost use mathlib.Core.Path.{_≡_};
 ghost use mathlib.Core.List.{map};
-ghost use Prim.Native.Nat.{_+_, _*_, _≤_};
+ghost use Prim.Native.Nat.{_+_, _*_, _≤_, _<_};
 ghost use lib.ListN.{length, take};
 ghost use lib.Seq.{sets};
 ghost use Rattle.capture.specs.Capture as Captures;
+ghost use Rattle.capture.specs.Calls.{countOf, partAt};
 ghost use Rattle.layout.specs.Elf as Elf;
 ghost use Rattle.layout.specs.Calls as Calls;
 
@@ -111,23 +112,43 @@ fn keep(total: u64, count: usize, words: &mut [u64])
     }
 }
 
-// The first part; no byte where there is none.
-fn front_of(parts: &[u64]) -> Part
-    ensures { λ p. ⌜ p ≡ Calls.firstBy (now (parts .entry)) ⌝ }
+// The i-th part.
+fn part_at(parts: &[u64], i: usize) -> Part
+    requires { ⌜ i < countOf (now parts) ⌝ }
+    ensures { λ p. ⌜ p ≡ partAt (now (parts .entry)) i ⌝ }
 {
-    if parts.len() < 3 {
-        Part {
-            address: 0,
-            from: 0,
-            to: 0,
-        }
-    } else {
-        Part {
-            address: parts[0],
-            from: parts[1] as usize,
-            to: parts[2] as usize,
-        }
+    Part {
+        address: parts[3 * i],
+        from: parts[3 * i + 1] as usize,
+        to: parts[3 * i + 2] as usize,
     }
+}
+
+fn larger(p: Part, q: Part) -> Part
+    ensures { λ r. ⌜ r ≡ Calls.larger p q ⌝ }
+{
+    if capture::kept(q) <= capture::kept(p) {
+        p
+    } else {
+        q
+    }
+}
+
+// The largest part; no byte where there is none. It is the one that most descriptors are likely to lie in.
+fn front_of(parts: &[u64]) -> Part
+    ensures { λ p. ⌜ p ≡ Calls.frontBy (now (parts .entry)) ⌝ }
+{
+    let mut largest = Part {
+        address: 0,
+        from: 0,
+        to: 0,
+    };
+    let mut i = parts.len() / 3;
+    while 0 < i {
+        i -= 1;
+        largest = larger(part_at(parts, i), largest);
+    }
+    largest
 }
 
 // What the file has of the banks of a core file. The words are meant for the call's own use: where the file is refused they are left

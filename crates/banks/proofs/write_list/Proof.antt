@@ -8,7 +8,6 @@ use lib.ListN.{getD}
 use lib.Dec.{ltb}
 use Rattle.bits.specs.Bits.{pick}
 use Rattle.capture.specs.Capture.{kept}
-use Rattle.capture.proofs.Lesser.{part-lies}
 use Rattle.banks.specs.Banks.{keptOf, shortOf}
 use Rattle.banks.proofs.Writing.{Writing, begin, next, end}
 use Rattle.banks.proofs.write_list.Statement.{statement}
@@ -43,7 +42,7 @@ write-list-spec =
     (λ c. search needs)
     (λ c. search needs)
     (λ c κs. search needs)
-    (λ c κs. rw (c .of-bank .ensures) (part-lies _ _ .0))
+    (λ c κs. search needs)
     (λ c. search needs)
     (λ c. let l = c .before .before .before .before .before .before in omega (arith, l .loop .inv .0 .same, c .before .before .before .before .before .loop-test .taken, l .before .before .before .before .before .before .pre .0))
     (λ c. search needs)

@@ -17,7 +17,7 @@ use Rattle.capture.specs.Calls.{ahead}
 use Rattle.capture.specs.declared.Part.{Part}
 use Rattle.layout.specs.declared.Said.{Said}
 use Rattle.layout.specs.Elf.{headed, banks, mostBanks, parts, isCore}
-use Rattle.layout.specs.Calls.{saidWords, partWords, banksOn, banksBy, frontOf, firstBy, Reads}
+use Rattle.layout.specs.Calls.{saidWords, partWords, banksOn, banksBy, frontOf, frontBy, Reads}
 use Rattle.layout.proofs.Parts.{parts-by, banks-by, said-first, banks-first, parts-first}
 use Rattle.layout.proofs.lay_out.Statement.{statement}
 use Rattle.layout.proofs.lay_out.Tie as tie
@@ -56,7 +56,7 @@ module _ (file words words₁ : List ℕ) {r : Said} (read : Reads file words r 
           let p = parts-first words₁ (parts file) (omega (arith, n, k, small)) in
           rw (w, b) (rw n at p)
 
-      front : {p : Part} → p ≡ firstBy (take (3 * r .count - 0) words₂) → p ≡ frontOf (parts file)
+      front : {p : Part} → p ≡ frontBy (take (3 * r .count - 0) words₂) → p ≡ frontOf (parts file)
       front p = rw (sub-zero (3 * r .count), counted, laid, parts-by (parts file)) at p
 
 pub lay-out-spec : {M : Type 1} → statement M

@@ -15,8 +15,9 @@ use Rattle.capture.specs.Calls.{ahead}
 use Rattle.capture.specs.declared.Part.{Part}
 use Rattle.layout.specs.declared.elf.Tally.{Tally}
 use Rattle.layout.specs.Elf.{headed, headerCount, headersAt, headersEnd, bankAt, banks, follows, ascend, meets, clear, apart, wellLaid, isCore}
-use Rattle.layout.specs.Calls.{bankOf, Tallies, frontOf, noLone, Alone}
+use Rattle.layout.specs.Calls.{bankOf, Tallies, noLone, Alone}
 use Rattle.layout.proofs.Headed.{long, there, fits}
+use Rattle.layout.proofs.Front.{front-sole}
 use Rattle.layout.proofs.Parts.{one-high}
 use Rattle.layout.proofs.lone_bank.Statement.{statement}
 use Rattle.layout.proofs.lone_bank.Tie as tie
@@ -72,7 +73,6 @@ module _ (c : tie.After-of-bank) where
   judge = judged file (k .before .before .header-count .ensures .0) (k .before .headers-at .ensures) (headers (k .before .before .before)) bank (c .of-bank .ensures)
 
 pub lone-bank-spec : {M : Type 1} → statement M
-unfolding frontOf
 lone-bank-spec =
     tie.close
     (tie.spec
@@ -112,5 +112,5 @@ lone-bank-spec =
       found = sym (judge k (told (m .meets .ensures) (c .before .before .before .before .if3 .left)) (told (c .before .before .before .meets2 .ensures) (c .before .before .if4 .left)));
       none = λ t. absurd (true≢false t);
       high = λ t. rw (bank k) (c .before .ends-high .ensures ∙ sym (one-high _));
-      front = λ t. rw (bank k) (c .ahead .ensures ∙ ap ahead (k .of-bank .ensures));
+      front = λ t. rw (bank k) (c .ahead .ensures ∙ ap ahead (k .of-bank .ensures ∙ sym (front-sole _)));
     }))
