@@ -12,52 +12,93 @@ use crate::workloads::{Workload, BATCH, BATCHES};
 /// Questions of a round. Each reads the headers anew, so that a whole batch of them would take long.
 pub const QUESTIONS: usize = BATCH / 8;
 
-/// How a capture is cut into a core file.
+/// How a capture is cut into the banks of a core file.
 #[derive(Clone, Copy)]
 pub struct Cut {
     pub name: &'static str,
-    pub banks: usize,
-    /// The banks stand in the file in another order than in memory.
+    /// Banks of one size that have all of the capture.
+    banks: usize,
+    /// Small banks at lower addresses, with nothing in them: a board's other memory.
+    small: usize,
+    /// The banks of the capture stand in the file in another order than in memory.
     shuffled: bool,
 }
 
 /// All of a capture in one bank.
-pub const WHOLE: Cut = Cut { name: "1", banks: 1, shuffled: false };
+pub const WHOLE: Cut = Cut { name: "1", banks: 1, small: 0, shuffled: false };
 
 /// The cuts that are measured. With the most banks each page of a hot workload is one.
-pub const CUTS: [Cut; 3] =
-    [WHOLE, Cut { name: "64", banks: MOST_BANKS, shuffled: false }, Cut { name: "64, shuffled", banks: MOST_BANKS, shuffled: true }];
+pub const CUTS: [Cut; 4] = [
+    WHOLE,
+    Cut { name: "4, 3 of them small", small: 3, ..WHOLE },
+    Cut { name: "64", banks: MOST_BANKS, ..WHOLE },
+    Cut { name: "64, shuffled", banks: MOST_BANKS, shuffled: true, ..WHOLE },
+];
 
-/// Where the banks' bytes begin in a file with so many banks: behind the headers.
-pub fn first_byte(count: usize) -> usize {
-    ELF_HEADER + count * PROGRAM_HEADER
+const SMALL: usize = 64;
+
+impl Cut {
+    fn count(&self) -> usize {
+        self.small + self.banks
+    }
+
+    /// Where the capture's bytes begin in the file: behind the headers. The small banks' are behind them.
+    fn first(&self) -> usize {
+        ELF_HEADER + self.count() * PROGRAM_HEADER
+    }
+
+    /// In which order the banks of the capture stand in the file.
+    fn places(&self, seed: u64) -> Vec<usize> {
+        let mut random = Random::new(seed);
+        let mut places: Vec<usize> = (0..self.banks).collect();
+        if self.shuffled {
+            for i in (1..self.banks).rev() {
+                places.swap(i, random.below(i as u64 + 1) as usize);
+            }
+        }
+        places
+    }
 }
 
-/// A core file of a workload's capture, cut into banks of one size.
-pub fn build(workload: &Workload, cut: Cut, seed: u64) -> Vec<u8> {
-    let (capture, count) = (workload.capture(), cut.banks);
-    let mut random = Random::new(seed);
-    let mut places: Vec<usize> = (0..count).collect();
-    if cut.shuffled {
-        for i in (1..count).rev() {
-            places.swap(i, random.below(i as u64 + 1) as usize);
-        }
+/// A bank's header.
+fn write_header(file: &mut [u8], n: usize, offset: usize, address: u64, size: usize) {
+    let header = &mut file[ELF_HEADER + n * PROGRAM_HEADER..][..PROGRAM_HEADER];
+    header[0] = 1;
+    for (at, number) in [(8, offset as u64), (24, address), (32, size as u64)] {
+        header[at..at + 8].copy_from_slice(&number.to_le_bytes());
     }
-    let (size, first) = (capture.bytes.len() / count, first_byte(count));
-    let mut file = vec![0; first + capture.bytes.len()];
+}
+
+/// A core file of a workload's capture.
+pub fn build(workload: &Workload, cut: Cut, seed: u64) -> Vec<u8> {
+    let capture = workload.capture();
+    let (size, first) = (capture.bytes.len() / cut.banks, cut.first());
+    let end = first + capture.bytes.len();
+    let mut file = vec![0; end + cut.small * SMALL];
     file[..6].copy_from_slice(b"\x7fELF\x02\x01");
-    for (at, number) in [(16, 4), (18, 183), (32, ELF_HEADER), (54, PROGRAM_HEADER), (56, count)] {
+    for (at, number) in [(16, 4), (18, 183), (32, ELF_HEADER), (54, PROGRAM_HEADER), (56, cut.count())] {
         file[at..at + 2].copy_from_slice(&(number as u16).to_le_bytes());
     }
-    for (n, place) in places.into_iter().enumerate() {
-        let (header, offset) = (ELF_HEADER + n * PROGRAM_HEADER, first + place * size);
-        file[header] = 1;
-        for (at, number) in [(8, offset as u64), (24, capture.base + (n * size) as u64), (32, size as u64)] {
-            file[header + at..header + at + 8].copy_from_slice(&number.to_le_bytes());
-        }
+    for n in 0..cut.small {
+        write_header(&mut file, n, end + n * SMALL, (n * SMALL) as u64, SMALL);
+    }
+    for (n, place) in cut.places(seed).into_iter().enumerate() {
+        let offset = first + place * size;
+        write_header(&mut file, cut.small + n, offset, capture.base + (n * size) as u64, size);
         file[offset..offset + size].copy_from_slice(&capture.bytes[n * size..(n + 1) * size]);
     }
     file
+}
+
+/// The raw capture that a core file is held against: the file's own bytes, since the same bytes elsewhere in memory may take longer or
+/// shorter, or the workload's where the file has them in several banks.
+pub fn raw<'a>(workload: &'a Workload, file: &'a [u8], cut: Cut) -> Capture<'a> {
+    let capture = workload.capture();
+    if cut.banks == 1 {
+        Capture { bytes: &file[cut.first()..][..capture.bytes.len()], ..capture }
+    } else {
+        capture
+    }
 }
 
 /// The Rust batch over a core file. Reading the headers is part of it.
@@ -84,24 +125,9 @@ pub fn asked(ask: impl FnOnce(&mut [u64]) -> Words) -> (Words, Vec<u64>) {
     (ask(&mut log), log)
 }
 
-/// The bank of a file that has one alone, as a raw capture: the same bytes elsewhere in memory may take longer or shorter.
-pub fn lone(file: &[u8], base: u64) -> Capture<'_> {
-    Capture { base, bytes: &file[first_byte(1)..] }
-}
-
-/// The raw capture that a core file is held against: its own bytes, or the workload's where the file has them in another order.
-fn raw<'a>(workload: &'a Workload, file: &'a [u8], count: usize) -> Capture<'a> {
-    let capture = workload.capture();
-    if count == 1 {
-        lone(file, capture.base)
-    } else {
-        capture
-    }
-}
-
 /// All must say of the core file what the proved ones say of the raw capture.
-pub fn agree(workload: &Workload, file: &[u8], count: usize) -> Result<(), String> {
-    let (q, capture) = (&workload.question, raw(workload, file, count));
+pub fn agree(workload: &Workload, file: &[u8], cut: Cut) -> Result<(), String> {
+    let (q, capture) = (&workload.question, raw(workload, file, cut));
     for addresses in &workload.batches {
         let raw = filled(|outputs, numbers| done(proved::batch(q, capture, addresses, outputs, numbers)));
         let core = filled(|outputs, numbers| done(proved::batch_core(q, file, addresses, outputs, numbers)));
@@ -179,8 +205,8 @@ impl Medians {
 const WAYS: usize = 8;
 
 /// Of batches, and of questions. In each round all eight take a batch, each another one, in turning order.
-pub fn measure(workload: &Workload, file: &[u8], count: usize, rounds: usize) -> (Medians, Medians) {
-    let (q, capture) = (&workload.question, raw(workload, file, count));
+pub fn measure(workload: &Workload, file: &[u8], cut: Cut, rounds: usize) -> (Medians, Medians) {
+    let (q, capture) = (&workload.question, raw(workload, file, cut));
     let (mut outputs, mut numbers, mut log) = (vec![0; BATCH], vec![0; BATCH], [0; LOG]);
     let times = interleaved::<WAYS>(BATCHES, rounds, |way, round| {
         let addresses = &workload.batches[(round + way * BATCHES / WAYS) % BATCHES];

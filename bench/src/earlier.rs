@@ -35,18 +35,18 @@ pub fn knows_core_files(pairs: &[Pair]) -> bool {
 }
 
 /// A workload's capture as a core file of one bank, and the bank's own bytes as a raw capture, so that both are read in one memory.
-pub struct Captures {
+pub struct Captures<'a> {
+    workload: &'a Workload,
     file: Vec<u8>,
-    base: u64,
 }
 
-impl Captures {
-    pub fn of(workload: &Workload, seed: u64) -> Captures {
-        Captures { file: cores::build(workload, WHOLE, seed), base: workload.capture().base }
+impl<'a> Captures<'a> {
+    pub fn of(workload: &'a Workload, seed: u64) -> Captures<'a> {
+        Captures { workload, file: cores::build(workload, WHOLE, seed) }
     }
 
     fn raw(&self) -> Memory<'_> {
-        Memory::Raw(cores::lone(&self.file, self.base))
+        Memory::Raw(cores::raw(self.workload, &self.file, WHOLE))
     }
 
     fn core(&self) -> Memory<'_> {
@@ -56,7 +56,7 @@ impl Captures {
 
 /// A build with the capture that it is given: the earlier one and this one over the raw capture, then both over the core file. An earlier
 /// build that knows no core files is given the raw capture for one.
-fn builds<'a>(pair: &'a Pair, captures: &'a Captures) -> [(&'a Library, Memory<'a>); BUILDS] {
+fn builds<'a>(pair: &'a Pair, captures: &'a Captures<'a>) -> [(&'a Library, Memory<'a>); BUILDS] {
     let (raw, core) = (captures.raw(), captures.core());
     let known = if pair.earlier.knows_core_files() { core } else { raw };
     [(&pair.earlier, raw), (&pair.now, raw), (&pair.earlier, known), (&pair.now, core)]
@@ -65,11 +65,12 @@ fn builds<'a>(pair: &'a Pair, captures: &'a Captures) -> [(&'a Library, Memory<'
 const BUILDS: usize = 4;
 
 /// Both builds must say the same at all places.
-pub fn agree(pairs: &[Pair], workload: &Workload, captures: &Captures) -> Result<(), String> {
-    pairs.iter().try_for_each(|pair| pair_agrees(pair, workload, captures))
+pub fn agree(pairs: &[Pair], captures: &Captures) -> Result<(), String> {
+    pairs.iter().try_for_each(|pair| pair_agrees(pair, captures))
 }
 
-fn pair_agrees(pair: &Pair, workload: &Workload, captures: &Captures) -> Result<(), String> {
+fn pair_agrees(pair: &Pair, captures: &Captures) -> Result<(), String> {
+    let workload = captures.workload;
     let q = &workload.question;
     for addresses in &workload.batches {
         let all = builds(pair, captures)
@@ -98,7 +99,8 @@ fn place(round: usize) -> usize {
 
 /// The median times of the calls at each place, of so many rounds at each. In each round all calls take a batch, each another one, in
 /// turning order.
-pub fn measure(pairs: &[Pair], workload: &Workload, captures: &Captures, rounds: usize) -> Vec<[f64; CALLS]> {
+pub fn measure(pairs: &[Pair], captures: &Captures, rounds: usize) -> Vec<[f64; CALLS]> {
+    let workload = captures.workload;
     let q = &workload.question;
     let (mut outputs, mut numbers, mut log) = (vec![0; BATCH], vec![0; BATCH], [0; LOG]);
     let warm_up = BATCHES * PLACES.len();

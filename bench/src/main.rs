@@ -112,8 +112,8 @@ fn cores(rounds: usize) {
         let workload = workloads::build(&plan, SEED);
         for cut in cores::CUTS {
             let file = cores::build(&workload, cut, SEED);
-            cores::agree(&workload, &file, cut.banks).unwrap_or_else(|difference| differ(plan.name, difference));
-            let (batch, question) = cores::measure(&workload, &file, cut.banks, rounds);
+            cores::agree(&workload, &file, cut).unwrap_or_else(|difference| differ(plan.name, difference));
+            let (batch, question) = cores::measure(&workload, &file, cut, rounds);
             let ratios =
                 |m: &cores::Medians| format!("{:.2} | {:.2} | {:.2} | {:.0}", m.core / m.raw, m.core / m.scan, m.core / m.halving, m.core);
             println!("| {} | {} | {} | {} |", plan.name, cut.name, ratios(&batch), ratios(&question));
@@ -156,8 +156,8 @@ fn against(folder: &Path, quick: bool, rounds: usize) {
     for plan in workloads::plans(quick) {
         let workload = workloads::build(&plan, SEED);
         let captures = earlier::Captures::of(&workload, SEED);
-        earlier::agree(&pairs, &workload, &captures).unwrap_or_else(|difference| differ(plan.name, difference));
-        let times = earlier::measure(&pairs, &workload, &captures, rounds);
+        earlier::agree(&pairs, &captures).unwrap_or_else(|difference| differ(plan.name, difference));
+        let times = earlier::measure(&pairs, &captures, rounds);
         let [raw_batch, core_batch, raw_question, core_question] = earlier::ratios(&times);
         println!("| {} | {raw_batch} | {core_batch} | {raw_question} | {core_question} |", plan.name);
     }
