@@ -30,7 +30,7 @@ use Rattle.registers.specs.declared.El2.{El2}
 use Rattle.settings.specs.Settings.{stage1On, stage2On, settings}
 use Rattle.regime.specs.Roots.{lowerGeometry, upperGeometry, rangeOf, stage1, stage2}
 use Rattle.regime.specs.Calls.{lowerHalf, upperHalf, rangeBy, output1, ranged1, narrowed1, sided1, narrowed2}
-use Rattle.regime.proofs.Settings.{lower-sized, upper-sized, lower-settled, upper-settled, half-settled}
+use Rattle.regime.proofs.Settings.{lower-sized, upper-sized, lower-sound, upper-sound, half-sound}
 use Rattle.regime.proofs.Ready.{narrow1, range-narrow}
 
 -- ---- stage 2
@@ -122,13 +122,13 @@ module _ (r : El2) (g : El1) (accepted : settings r g ≡ 0) (a : Access) (fits 
   -- the access by ranges that are left out where they are not wanted is the access
   pub access-narrowed : access (narrowed1 r g) (narrowed2 r) a ≡ access (stage1 r g) (stage2 r) a
   access-narrowed =
-      access-ranged r g accepted _ _ (range-narrow _ _ (lower-settled r g accepted refl), range-narrow _ _ (upper-settled r g accepted refl)) a fits
+      access-ranged r g accepted _ _ (range-narrow _ _ (lower-sound r g accepted refl), range-narrow _ _ (upper-sound r g accepted refl)) a fits
       (λ on. (λ _. upper-kept r g on, λ _. lower-kept r g on))
 
   -- and so is that by the address's own range in the place of both
   pub access-sided : access (sided1 (bit (a .address) 55) r g) (narrowed2 r) a ≡ access (stage1 r g) (stage2 r) a
   access-sided =
-      let n = range-narrow (output1 r g) _ (half-settled r g accepted refl (bit (a .address) 55)) in
+      let n = range-narrow (output1 r g) _ (half-sound r g accepted refl (bit (a .address) 55)) in
       access-ranged r g accepted _ _ (n, n) a fits
       (λ on. (
         λ e. ap (rangeBy (output1 r g)) (pick-true _ _ _ e) ∙ upper-kept r g on,

@@ -19,7 +19,7 @@ use Rattle.registers.specs.declared.El1.{El1}
 use Rattle.registers.specs.declared.El2.{El2}
 use Rattle.settings.specs.Settings.{settings}
 use Rattle.regime.specs.declared.Half.{Half}
-use Rattle.regime.specs.Calls.{Sized, Settled, rangeBy, withStarts, ranged1}
+use Rattle.regime.specs.Calls.{Sized, SoundHalf, rangeBy, withStarts, ranged1}
 use Rattle.regime.proofs.Settings.{pamax-small}
 use Rattle.regime.proofs.Roots.{start1-is, start2-most, not-before, start2-bits}
 use Rattle.walk.specs.Calls.{Small, Starts}
@@ -78,7 +78,7 @@ small2 r some few =
 
 -- ---- stage 1 in words
 
-pub range-narrow : (output : ℕ) (h : Half) → Settled h → Narrow (rangeBy output h)
+pub range-narrow : (output : ℕ) (h : Half) → SoundHalf h → Narrow (rangeBy output h)
 range-narrow output h s = narrow1 _ _ _ (s .size)
 
 module _ (r : El2) (g : El1) (accepted : settings r g ≡ 0) (l u : VaRange) (low : Narrow l) (high : Narrow u)

@@ -14,7 +14,7 @@ use Rattle.settings.specs.Settings.{stage1On, implies, listedPamax, listedSizeF
 use Rattle.settings.proofs.Items.{holdsAt, numbered, item-holds}
 use Rattle.level.specs.Level.{inputSize}
 use Rattle.level.proofs.Granules.{tg0-granular, tg1-granular}
-use Rattle.regime.specs.Calls.{Sized, leftOut, lowerHalf, upperHalf, halfOf, Settled}
+use Rattle.regime.specs.Calls.{Sized, leftOut, lowerHalf, upperHalf, halfOf, SoundHalf}
 use Rattle.registers.specs.declared.El1.{El1}
 use Rattle.registers.specs.declared.El2.{El2}
 
@@ -47,26 +47,26 @@ kept true epd e = (refl, e)
 kept false epd e = absurd (true≢false e)
 
 module _ (r : El2) (g : El1) (accepted : settings r g ≡ 0) {on : Bool} (is : on ≡ stage1On r g) where
-  pub lower-settled : Settled (lowerHalf on g)
-  lower-settled =
+  pub lower-sound : SoundHalf (lowerHalf on g)
+  lower-sound =
       record {
         granule = tg0-granular _;
         field = mod-lt _ (omega arith);
         size = λ e. let k = kept on _ e in lower-sized r g accepted (sym is ∙ k .0) (k .1);
       }
 
-  pub upper-settled : Settled (upperHalf on g)
-  upper-settled =
+  pub upper-sound : SoundHalf (upperHalf on g)
+  upper-sound =
       record {
         granule = tg1-granular _;
         field = mod-lt _ (omega arith);
         size = λ e. let k = kept on _ e in upper-sized r g accepted (sym is ∙ k .0) (k .1);
       }
 
-  pub half-settled : (upper : Bool) → Settled (halfOf upper on g)
+  pub half-sound : (upper : Bool) → SoundHalf (halfOf upper on g)
   unfolding pick
-  half-settled true = upper-settled
-  half-settled false = lower-settled
+  half-sound true = upper-sound
+  half-sound false = lower-sound
 
 -- ---- PAMax
 

@@ -46,7 +46,7 @@ abbrev pub halfOf : (upper on : Bool) → El1 → Half
 halfOf upper on g = pick upper (upperHalf on g) (lowerHalf on g)
 
 -- a VA range that is not left out has an accepted size
-pub record Settled (h : Half) : Type 0 where
+pub record SoundHalf (h : Half) : Type 0 where
   pub granule : Granular (h .granule)
   pub field : h .tnsz < 64
   pub size : h .epd ≡ false → Sized (inputSize (h .tnsz))

@@ -106,7 +106,7 @@ fn half_at(g: El1, on: bool, address: u64) -> Half
 
 // The start of a VA range.
 fn start1(output: u64, h: Half) -> Start
-    requires { ⌜ Calls.Settled h ⌝ }
+    requires { ⌜ Calls.SoundHalf h ⌝ }
     ensures { λ r. ⌜ Starts r (Calls.rangeBy output h .root) ⌝ }
 {
     let k = h.granule;

@@ -3,17 +3,17 @@
 use borrow.Author.Needs.{needs}
 use mathlib.Core.Path.{_∙_}
 use native.Mathlib.Omega.{arith}
-use Rattle.regime.specs.Calls.{Settled}
-use Rattle.regime.proofs.Settings.{lower-settled, upper-settled}
+use Rattle.regime.specs.Calls.{SoundHalf}
+use Rattle.regime.proofs.Settings.{lower-sound, upper-sound}
 use Rattle.regime.proofs.Ready.{range-narrow, words-are, words-sound}
 use Rattle.regime.proofs.prepared1.Statement.{statement}
 use Rattle.regime.proofs.prepared1.Tie as tie
 
-low : (c : tie.After-upper-half) → Settled (c .before .lower-half .result)
-low c = let k = c .before .before .before in rw (c .before .lower-half .ensures) (lower-settled _ _ (k .before .pre) (k .stage1-on .ensures))
+low : (c : tie.After-upper-half) → SoundHalf (c .before .lower-half .result)
+low c = let k = c .before .before .before in rw (c .before .lower-half .ensures) (lower-sound _ _ (k .before .pre) (k .stage1-on .ensures))
 
-high : (c : tie.After-upper-half) → Settled (c .upper-half .result)
-high c = let k = c .before .before .before in rw (c .upper-half .ensures) (upper-settled _ _ (k .before .pre) (k .stage1-on .ensures))
+high : (c : tie.After-upper-half) → SoundHalf (c .upper-half .result)
+high c = let k = c .before .before .before in rw (c .upper-half .ensures) (upper-sound _ _ (k .before .pre) (k .stage1-on .ensures))
 
 returns : tie.Need-returns
 returns c =
