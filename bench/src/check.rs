@@ -6,9 +6,9 @@ use crate::question;
 use crate::straight::LOG;
 use crate::workloads::{Workload, BATCH};
 
-/// One address in so many is put to the proved question too. Odd, or all of the sample could be of the eighth that lies beyond the
-/// input size in the workload of faults.
-const SAMPLE: usize = 15;
+/// One address in so many is put to questions too, before anything is timed. Odd, or all of the sample could be of the eighth that
+/// lies beyond the input size in the workload of faults.
+pub const SAMPLE: usize = 15;
 
 /// What was found to agree: the mean of reads, and the share of translated addresses.
 pub struct Agreed {

@@ -1,5 +1,6 @@
 //! The hot workloads once more, over core files of the same bytes: with one bank, and with a bank for each page.
 use crate::batch::Batch;
+use crate::check::SAMPLE;
 use crate::memory::{Banks, Core, ELF_HEADER, MOST_BANKS, PROGRAM_HEADER};
 use crate::one_by_one::one_by_one;
 use crate::proved::{self, BatchWords, Capture, Question, Words};
@@ -136,7 +137,7 @@ pub fn agree(workload: &Workload, file: &[u8], cut: Cut) -> Result<(), String> {
         if [core, scan, halving].iter().any(|told| *told != raw) {
             return Err("batches over the core file and over the raw capture differ".to_string());
         }
-        for &address in addresses.iter().step_by(15) {
+        for &address in addresses.iter().step_by(SAMPLE) {
             let raw = asked(|log| proved::ask(q, capture, address, log));
             let core = asked(|log| proved::ask_core(q, file, address, log));
             let scan = asked(|log| ask_core::<false>(q, file, address, log));

@@ -2,6 +2,7 @@
 //!
 //! Each build stands at several places: how long code takes depends on where it stands in a cache line, which every edit changes. A
 //! build's time is the mean over its places.
+use crate::check::SAMPLE;
 use crate::cores::{self, WHOLE};
 use crate::library::{Library, Memory};
 use crate::one_by_one::one_by_one;
@@ -14,9 +15,6 @@ use std::path::Path;
 
 /// How far the code of a build is moved, in bytes. Functions begin at multiples of 16, and a cache line has 64.
 const PLACES: [usize; 4] = [0, 16, 32, 48];
-
-/// One address in so many is put to the questions before they are timed.
-const SAMPLE: usize = 15;
 
 /// Both builds at one place.
 pub struct Pair {
