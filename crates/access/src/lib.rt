@@ -1,11 +1,13 @@
 // Accesses by a guest, and which numbers a question may hold.
+#![tactic(auto)]
+
 ghost use Rattle.std.specs.Prelude.{◌≡◌, true, cond, ◌-◌};
 ghost use Rattle.access.specs.Access as Accesses;
 
 // One access by a guest. The numbers are the caller's: kind 0 reads, 1 writes, 2 fetches; el is 0 or 1; size is in bytes.
 // It has C's layout: the exported calls take it.
 #[repr(C)]
-#[derive(Drop)]
+#[derive(Clone, Copy)]
 pub struct Access {
     pub address: u64,
     pub kind: u64,

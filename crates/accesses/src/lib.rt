@@ -1,4 +1,6 @@
 // The access to each address of a list, with one kind, EL and size, from prepared stages.
+#![tactic(auto)]
+
 ghost use Rattle.std.specs.Prelude.{◌≡◌, true, ◌≤◌, length};
 ghost use Rattle.bits.specs.Bits.{pick};
 ghost use Rattle.access.specs.Access.{listed_size};

@@ -1,4 +1,6 @@
 // Answers: why a call is refused, what one question is answered, and the numbers of both (01, Answer numbers).
+#![tactic(auto)]
+
 ghost use Rattle.std.specs.Prelude.{◌≡◌};
 ghost use Rattle.stages.specs.Calls.{outcome_of};
 ghost use Rattle.answers.specs.Answers as Answers;
@@ -11,7 +13,7 @@ use walk::end::Ending;
 use walk::stop::{Fault, Missing, Open, Stage, Stop};
 
 // Bad input, in the order of the numbers 10 to 16.
-#[derive(Drop)]
+#[derive(Clone, Copy)]
 pub enum Refusal {
     ShortLog,
     HighCapture,
@@ -24,14 +26,14 @@ pub enum Refusal {
 }
 
 // Whether a call is refused, and why.
-#[derive(Drop)]
+#[derive(Clone, Copy)]
 pub enum Verdict {
     Accepted,
     Refused(Refusal),
 }
 
 // What one question is answered, with the number of descriptors read. A refusal reads none.
-#[derive(Drop)]
+#[derive(Clone, Copy)]
 pub enum Answer {
     Translated { to: Translation, reads: u64 },
     Fault { fault: Fault, reads: u64 },

@@ -1,4 +1,6 @@
 // Memory attributes: decoding, combining, reporting.
+#![tactic(auto)]
+
 ghost use Rattle.std.specs.Prelude.{◌≡◌, Bool, ◌&&◌, eqb};
 ghost use Rattle.bits.specs.Bits.{pick};
 ghost use Rattle.attributes.specs.Attributes as Memories;
@@ -6,7 +8,7 @@ ghost use Rattle.attributes.specs.Attributes as Memories;
 use bits::field;
 
 // Device memory, strictest first.
-#[derive(Drop)]
+#[derive(Clone, Copy)]
 pub enum DeviceType {
     NGnRnE,
     NGnRE,
@@ -14,14 +16,14 @@ pub enum DeviceType {
     GRE,
 }
 
-#[derive(Drop)]
+#[derive(Clone, Copy)]
 pub enum Cacheability {
     NonCacheable,
     WriteThrough,
     WriteBack,
 }
 
-#[derive(Drop)]
+#[derive(Clone, Copy)]
 pub enum MemoryType {
     Device(DeviceType),
     Normal {
@@ -30,28 +32,28 @@ pub enum MemoryType {
     },
 }
 
-#[derive(Drop)]
+#[derive(Clone, Copy)]
 pub enum Shareability {
     NonShareable,
     OuterShareable,
     InnerShareable,
 }
 
-#[derive(Drop)]
+#[derive(Clone, Copy)]
 pub struct Attributes {
     pub memory: MemoryType,
     pub shareability: Shareability,
 }
 
 // Attributes as a descriptor gives them, if Arm settles what it gives.
-#[derive(Drop)]
+#[derive(Clone, Copy)]
 pub enum Decoded {
     Settled(Attributes),
     Unsettled,
 }
 
 // What of a leaf's memory decides whether an access passes: whether Arm settles it, and whether it is Device memory.
-#[derive(Drop)]
+#[derive(Clone, Copy)]
 pub enum MemoryClass {
     Unsettled,
     Device,

@@ -1,4 +1,6 @@
 // The audit of stage 2's tables against the granted frames (01, The audit).
+#![tactic(auto)]
+
 ghost use Rattle.std.specs.Prelude.{◌≡◌, false, List, ℕ};
 ghost use Rattle.capture.specs.Calls.{captured, Held};
 ghost use Rattle.layout.specs.Layout.{raw, core};
@@ -13,7 +15,7 @@ use walk::end;
 pub mod table;
 
 // What can be wrong with an audited table, in the order of the numbers 1 to 4.
-#[derive(Drop)]
+#[derive(Clone, Copy)]
 pub enum FindingKind {
     NotCaptured,
     TouchesGrant,
@@ -22,13 +24,13 @@ pub enum FindingKind {
 }
 
 // The address is the table's for the first two, the entry's for the others.
-#[derive(Drop)]
+#[derive(Clone, Copy)]
 pub struct Finding {
     pub kind: FindingKind,
     pub address: u64,
 }
 
-#[derive(Drop)]
+#[derive(Clone, Copy)]
 pub enum AuditAnswer {
     Clean,
     Found(Finding),

@@ -1,4 +1,6 @@
 // The list of a core file's banks: where each lies, what the file has of it, and whether that is all (02, §1).
+#![tactic(auto)]
+
 ghost use Rattle.std.specs.Prelude.{◌≡◌, map, ◌≤◌, length};
 ghost use Rattle.std.proofs.lemmas.List.Edits.{sets};
 ghost use Rattle.bits.specs.Bits.{pick};
@@ -8,7 +10,7 @@ ghost use Rattle.banks.specs.Banks as Banks;
 
 use answers::Refusal;
 
-#[derive(Drop)]
+#[derive(Clone, Copy)]
 pub enum BanksAnswer {
     // How many banks there are.
     Listed(u64),

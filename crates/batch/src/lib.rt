@@ -1,6 +1,7 @@
 // A batch: many addresses with one kind, EL and size, each answered as the single question answers it.
 // Registers are decoded and stages prepared once. Both calls go through the addresses by `accesses::each` themselves: compiled into a
 // single caller, it would be slower.
+#![tactic(auto)]
 
 ghost use Rattle.std.specs.Prelude.{◌≡◌, false};
 ghost use Rattle.layout.specs.Layout.{raw, core};
@@ -16,7 +17,7 @@ use registers::{El1, El2};
 pub const MOST: usize = 4096;
 
 // What a batch gives: its ledger, or its refusal.
-#[derive(Drop)]
+#[derive(Clone, Copy)]
 pub enum BatchAnswer {
     Done(Ledger),
     Refused(Refusal),

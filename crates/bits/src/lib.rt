@@ -1,4 +1,6 @@
 // Fields of a word, by shifts and remainders. A shift of a word must be by less than 64, so each function tests its amount first.
+#![tactic(auto)]
+
 ghost use Rattle.std.specs.Prelude.{◌≡◌};
 ghost use Rattle.bits.specs.Bits as Bits;
 

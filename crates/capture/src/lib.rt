@@ -1,4 +1,6 @@
 // Captures: what descriptor lies at a physical address.
+#![tactic(auto)]
+
 ghost use Rattle.std.specs.Prelude.{◌≡◌, ℕ, ◌+◌, ◌-◌, ◌*◌, ◌^◌, ◌<◌, ◌≤◌, List, [], ◌∷◌, length, slice_index_or};
 ghost use Rattle.reads.specs.Program.{Reader};
 ghost use Rattle.capture.specs.Capture as Captures;
@@ -7,7 +9,7 @@ ghost use Rattle.capture.specs.Calls as Calls;
 use reads::Read;
 
 // What a file has of a bank: its bytes from one place to before another, which stand at a physical address.
-#[derive(Drop)]
+#[derive(Clone, Copy)]
 pub struct Part {
     pub address: u64,
     pub from: usize,
@@ -16,21 +18,21 @@ pub struct Part {
 
 // The part that is tried before the others are searched, with what takes an address to its place in the part: 2^64 less the part's own.
 // It is a word beside the address, so that compiled code adds it to where the bytes stand once, and to no address of a descriptor.
-#[derive(Drop)]
+#[derive(Clone, Copy)]
 pub struct Front {
     pub part: Part,
     pub back: u64,
 }
 
 // Where the eight bytes of a descriptor stand: in a part of the file, so far from its start.
-#[derive(Drop)]
+#[derive(Clone, Copy)]
 pub struct Spot {
     pub from: usize,
     pub to: usize,
     pub at: usize,
 }
 
-#[derive(Drop)]
+#[derive(Clone, Copy)]
 pub enum Place {
     Nowhere,
     At(Spot),

@@ -7,7 +7,7 @@ use registers::{El1, El2};
 
 // A walk from level 1 through three tables that lie one after the other: TCR_EL1 and VTCR_EL2, an address in whose indices the highest and
 // the lowest bit alone are set, the entries that these pick, and what the first two of them hold.
-#[derive(Drop)]
+#[derive(Clone, Copy)]
 struct Walk {
     tcr: u64,
     vtcr: u64,

@@ -1,4 +1,6 @@
 // Runs the cases of document 01, and core files, the output size and the granules of document 02, on the proved question, batch and audit and prints a line for each.
+#![tactic(auto)]
+
 use access::Access;
 use registers::hcr::Hcr;
 use registers::sctlr::Sctlr;

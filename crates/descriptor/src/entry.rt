@@ -4,7 +4,7 @@ ghost use Rattle.descriptor.specs.Entry as Entries;
 use bits::bit;
 
 // The sizes that one stage's walk goes by, in bits: the grain size of the 4KB granule is 12.
-#[derive(Drop)]
+#[derive(Clone, Copy)]
 pub struct Geometry {
     pub grainsize: u64,
     pub stride: u64,
@@ -17,14 +17,14 @@ pub struct Geometry {
 }
 
 // The type of a descriptor: invalid, of a table, or of a page or a block.
-#[derive(Drop)]
+#[derive(Clone, Copy)]
 pub enum DescriptorType {
     Invalid,
     Table,
     Leaf,
 }
 
-#[derive(Drop)]
+#[derive(Clone, Copy)]
 pub enum FaultKind {
     Translation,
     AddressSize,
@@ -33,7 +33,7 @@ pub enum FaultKind {
 }
 
 // What a walk does at an entry: goes on to a table, ends, faults, or cannot tell.
-#[derive(Drop)]
+#[derive(Clone, Copy)]
 pub enum Entry {
     Next(u64),
     Final,
@@ -42,7 +42,7 @@ pub enum Entry {
 }
 
 // Words that a walk goes by at each level, worked out of a geometry once.
-#[derive(Drop)]
+#[derive(Clone, Copy)]
 pub struct Masks {
     // Of the bits of an address beyond the output size.
     pub above: u64,
@@ -56,7 +56,7 @@ pub struct Masks {
 
 // Where a walk goes from an entry: down to a table, to its end at a leaf, or to a fault; without contents, so that nothing is built on
 // the way.
-#[derive(Drop)]
+#[derive(Clone, Copy)]
 pub enum Turn {
     Down,
     Leaf,
@@ -68,7 +68,7 @@ pub enum Turn {
 }
 
 // What the tables on the way to an entry of stage 1 impose.
-#[derive(Drop)]
+#[derive(Clone, Copy)]
 pub struct Inherited {
     pub readonly: bool,
     pub el1only: bool,

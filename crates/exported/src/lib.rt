@@ -1,6 +1,8 @@
 // The batch and the audit, each over a raw capture and over a core file, the list of a core file's banks and the ledger's line as calls on
 // numbers, structs of numbers and slices, for programs in C and Rust; and all answers in numbers.
 // The questions are in `exported_question` and `exported_core_question`. include/humpelkaas.h declares all of them for C.
+#![tactic(auto)]
+
 ghost use Rattle.std.specs.Prelude.{◌≡◌, ◌≤◌};
 ghost use Rattle.answers.specs.Answers.{stage_number, carries};
 ghost use Rattle.answers.specs.declared.Answer.TheVariants as Answers;
@@ -25,7 +27,7 @@ use walk::stop::Stage;
 
 // An answer in numbers: its own, then what it carries, and 0 in the place of what it does not.
 #[repr(C)]
-#[derive(Drop)]
+#[derive(Clone, Copy)]
 pub struct Words {
     pub number: u64,
     pub item: u64,
@@ -255,7 +257,7 @@ pub fn in_words(a: Answer) -> Words
 
 // A batch's answer in numbers: its own, a settings refusal's item, and its ledger, which is 0 throughout where it has none.
 #[repr(C)]
-#[derive(Drop)]
+#[derive(Clone, Copy)]
 pub struct BatchWords {
     pub number: u64,
     pub item: u64,
@@ -337,7 +339,7 @@ pub extern "C" fn humpelkaas_core_batch(
 
 // An audit's answer in numbers: its own, a settings refusal's item, and a finding's address.
 #[repr(C)]
-#[derive(Drop)]
+#[derive(Clone, Copy)]
 pub struct AuditWords {
     pub number: u64,
     pub item: u64,
@@ -400,7 +402,7 @@ pub extern "C" fn humpelkaas_core_audit(
 
 // A bank list's answer in numbers: its own, and how many banks there are.
 #[repr(C)]
-#[derive(Drop)]
+#[derive(Clone, Copy)]
 pub struct BanksWords {
     pub number: u64,
     pub count: u64,

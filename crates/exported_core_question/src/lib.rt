@@ -1,5 +1,7 @@
 // The question over a core file as a call for programs in C and Rust, as those of `exported` are. It is a crate of its own so that it is
 // compiled by itself, as the question over a raw capture is.
+#![tactic(auto)]
+
 ghost use Rattle.std.specs.Prelude.{◌≡◌};
 ghost use Rattle.answers.specs.Question.{ask};
 ghost use Rattle.layout.specs.Layout.{core};

@@ -1,5 +1,7 @@
 // The question over a raw capture as a call for programs in C and Rust, as those of `exported` are. It is a crate of its own so that it is
 // compiled by itself: then the access has one caller, and all of the question becomes one function.
+#![tactic(auto)]
+
 ghost use Rattle.std.specs.Prelude.{◌≡◌};
 ghost use Rattle.answers.specs.Question.{ask};
 ghost use Rattle.layout.specs.Layout.{raw};

@@ -105,7 +105,7 @@ fn is_bank(file: &[u8], at: usize) -> bool
 }
 
 // What a program header says of its bank.
-#[derive(Drop)]
+#[derive(Clone, Copy)]
 pub struct Header {
     pub address: u64,
     pub offset: u64,
@@ -124,7 +124,7 @@ pub(crate) fn header_at(file: &[u8], at: usize) -> Header
 }
 
 // How many of some program headers are banks, and where the last of those stands.
-#[derive(Drop)]
+#[derive(Clone, Copy)]
 pub struct Tally {
     pub count: usize,
     pub last: usize,

@@ -1,6 +1,8 @@
 // Where the banks of a core file lie, by its headers, and what the file has of them (02, §1).
 // A bank is three words side by side: its address, its offset in the file and its size, as its header says them. What the file has of it
 // is three words too: the address, and from where to before where its bytes stand.
+#![tactic(auto)]
+
 ghost use Rattle.std.specs.Prelude.{◌≡◌, map, ◌+◌, ◌*◌, ◌≤◌, ◌<◌, length, take};
 ghost use Rattle.std.proofs.lemmas.List.Edits.{sets};
 ghost use Rattle.capture.specs.Capture as Captures;
@@ -19,7 +21,7 @@ pub const MOST_BANKS: usize = 64;
 pub const BANK_WORDS: usize = 192;
 
 // What the headers say.
-#[derive(Drop)]
+#[derive(Clone, Copy)]
 pub struct Said {
     // The file is accepted.
     pub readable: bool,
@@ -28,7 +30,7 @@ pub struct Said {
 }
 
 // What the file has.
-#[derive(Drop)]
+#[derive(Clone, Copy)]
 pub struct Laid {
     pub readable: bool,
     // A bank ends past 2^48.
@@ -38,7 +40,7 @@ pub struct Laid {
 }
 
 // The bank of a core file that is accepted and has one alone: it is the part in front, and no words are needed.
-#[derive(Drop)]
+#[derive(Clone, Copy)]
 pub struct Lone {
     pub found: bool,
     // It ends past 2^48.

@@ -1,4 +1,6 @@
 // The ledger of a batch: how many answers of each sort there were, and its line.
+#![tactic(auto)]
+
 ghost use Rattle.std.specs.Prelude.{◌≡◌, ℕ, ◌≤◌};
 ghost use Rattle.bits.specs.Bits.{pick};
 ghost use Rattle.ledger.specs.Ledger as Ledgers;
@@ -7,7 +9,7 @@ pub mod line;
 
 // How many addresses a batch asked, and how many answers of each sort it had. It has C's layout: the exported calls take and give it.
 #[repr(C)]
-#[derive(Drop)]
+#[derive(Clone, Copy)]
 pub struct Ledger {
     pub asked: u64,
     pub translated: u64,

@@ -10,7 +10,7 @@ use crate::Ledger;
 const LONGEST: usize = 146;
 
 // How many bytes were written, or that the buffer is too short for the line.
-#[derive(Drop)]
+#[derive(Clone, Copy)]
 pub enum LineAnswer {
     Written(usize),
     Short,

@@ -5,7 +5,7 @@ ghost use Rattle.level.specs.Granule as Granules;
 use descriptor::entry::Geometry;
 
 // What differs from granule to granule. All else follows from the log of its size.
-#[derive(Drop)]
+#[derive(Clone, Copy)]
 pub struct Granule {
     pub log: u64,
     // The first level that stage 2 may start at, and what PAMax must be over there. The largest block is at the level after it.

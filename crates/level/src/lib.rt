@@ -1,4 +1,6 @@
 // Sizes and start levels (01, Walk). A start level is signed: registers can ask for one below level 0.
+#![tactic(auto)]
+
 ghost use Rattle.std.specs.Prelude.{◌≡◌, ℕ, ◌+◌, ◌-◌, ◌*◌, ◌%◌, ◌≤◌};
 ghost use Rattle.registers.specs.Vtcr as VtcrFields;
 ghost use Rattle.level.specs.Granule.{Granular, stride_of, geometry_of};

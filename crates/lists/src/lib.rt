@@ -1,4 +1,6 @@
 // The audit's lists: grants (address, byte count) and tables (address, level), each as two lists of words (01, The audit).
+#![tactic(auto)]
+
 ghost use Rattle.std.specs.Prelude.{◌≡◌, true, ◌&&◌, ◌+◌, ◌^◌, ◌≤◌, ◌<◌, leb, length, get_or, drop};
 ghost use Rattle.lists.specs.Lists as Lists;
 

@@ -1,4 +1,6 @@
 // One question: a capture, registers and an access in, an answer and a log out. The capture is raw or a core file.
+#![tactic(auto)]
+
 ghost use Rattle.std.specs.Prelude.{◌≡◌, true, false, List, ℕ, ◌≤◌, length};
 ghost use Rattle.reads.specs.Ran.{Ran};
 ghost use Rattle.access.specs.Access.{listed_size};

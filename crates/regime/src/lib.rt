@@ -1,4 +1,6 @@
 // The stages of a walk, as registers give them (01, Walk).
+#![tactic(auto)]
+
 ghost use Rattle.std.specs.Prelude.{◌≡◌, ◌+◌, ◌^◌, ◌≤◌, ◌<◌, ◌&&◌, ◌||◌, leb, pos};
 ghost use Rattle.std.specs.Int.Signed.{lt_z};
 ghost use Rattle.walk.specs.Calls.{Small, Starts, Sound2, stage2_of};
@@ -49,7 +51,7 @@ fn start_from(geometry: Geometry, n: u64, register: u64) -> Start
 }
 
 // What registers say of one VA range of stage 1: its granule, size field, EPD and TTBR.
-#[derive(Drop)]
+#[derive(Clone, Copy)]
 struct Half {
     granule: Granule,
     tnsz: u64,

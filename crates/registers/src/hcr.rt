@@ -3,7 +3,7 @@ ghost use Rattle.registers.specs.Hcr as HcrFields;
 
 // HCR_EL2: where its flags lie.
 #[repr(C)]
-#[derive(Drop)]
+#[derive(Clone, Copy)]
 pub struct Hcr(pub u64);
 
 impl Hcr {

@@ -1,4 +1,6 @@
 // Registers of the Non-secure EL1&0 regime, and PAMax. They have C's layout: the exported calls take them.
+#![tactic(auto)]
+
 use hcr::Hcr;
 use sctlr::Sctlr;
 use tcr::Tcr;
@@ -11,7 +13,7 @@ pub mod vtcr;
 
 // The guest's registers.
 #[repr(C)]
-#[derive(Drop)]
+#[derive(Clone, Copy)]
 pub struct El1 {
     pub sctlr: Sctlr,
     pub tcr: Tcr,
@@ -22,7 +24,7 @@ pub struct El1 {
 
 // The hypervisor's registers and the board's PAMax: all that stage 2 and the audit go by.
 #[repr(C)]
-#[derive(Drop)]
+#[derive(Clone, Copy)]
 pub struct El2 {
     pub pamax: u64,
     pub hcr: Hcr,

@@ -3,7 +3,7 @@ ghost use Rattle.registers.specs.Sctlr as SctlrFields;
 
 // SCTLR_EL1 and SCTLR_EL2: where their flags lie.
 #[repr(C)]
-#[derive(Drop)]
+#[derive(Clone, Copy)]
 pub struct Sctlr(pub u64);
 
 impl Sctlr {

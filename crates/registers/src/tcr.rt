@@ -3,7 +3,7 @@ ghost use Rattle.registers.specs.Tcr as TcrFields;
 
 // TCR_EL1: where its fields lie, and the masks of their values.
 #[repr(C)]
-#[derive(Drop)]
+#[derive(Clone, Copy)]
 pub struct Tcr(pub u64);
 
 impl Tcr {

@@ -3,7 +3,7 @@ ghost use Rattle.registers.specs.Vtcr as VtcrFields;
 
 // VTCR_EL2: where its fields lie, and the masks of their values.
 #[repr(C)]
-#[derive(Drop)]
+#[derive(Clone, Copy)]
 pub struct Vtcr(pub u64);
 
 impl Vtcr {

@@ -1,4 +1,6 @@
 // Which registers are accepted (01, Settings). The first item that fails decides, and a stage that is off is not tested.
+#![tactic(auto)]
+
 ghost use Rattle.std.specs.Prelude.{◌≡◌, not, ◌&&◌, [], ◌∷◌, ◌-◌, leb};
 ghost use Rattle.settings.specs.Settings as Settings;
 ghost use Rattle.registers.specs.Tcr as TcrFields;

@@ -26,7 +26,7 @@ use walk::stop::{Missing, Open, Stage, Stop};
 use walk::{end, stage2, stop};
 
 // A translated access. A stage that is off has level 0.
-#[derive(Drop)]
+#[derive(Clone, Copy)]
 pub struct Translation {
     pub address: u64,
     pub attributes: Attributes,
@@ -35,14 +35,14 @@ pub struct Translation {
 }
 
 // How an access ends.
-#[derive(Drop)]
+#[derive(Clone, Copy)]
 pub enum Reached {
     To(Translation),
     Stopped(Stop),
 }
 
 // Whose end it is: stage 1's, stage 2's of a stage 1 descriptor, or stage 2's of stage 1's output.
-#[derive(Drop)]
+#[derive(Clone, Copy)]
 pub enum By {
     First,
     OnWalk,
@@ -50,7 +50,7 @@ pub enum By {
 }
 
 // The same in plain words.
-#[derive(Drop)]
+#[derive(Clone, Copy)]
 pub struct Arrival {
     pub by: By,
     pub end: End,
@@ -217,7 +217,7 @@ pub fn access(
 }
 
 // What attributes go by, beside the descriptors of leaves.
-#[derive(Drop)]
+#[derive(Clone, Copy)]
 pub struct Memory {
     // Stage 1's, with HCR_EL2.DC, SCTLR_EL1.C and I.
     pub on1: bool,

@@ -4,7 +4,7 @@ ghost use Rattle.bits.specs.Bits.{pick, bit};
 ghost use Rattle.stages.specs.Ranges as Ranges;
 
 // Which VA range an address lies in.
-#[derive(Drop)]
+#[derive(Clone, Copy)]
 pub enum Range {
     Lower,
     Upper,
@@ -12,7 +12,7 @@ pub enum Range {
 }
 
 // What tells an address's range.
-#[derive(Drop)]
+#[derive(Clone, Copy)]
 pub struct Bounds {
     // TCR_EL1.TBI0 and TBI1, for addresses with bit 55 clear and set. The definitions go by these, the code by the masks.
     pub tbi0: bool,

@@ -24,14 +24,14 @@ use walk::table::Root;
 use walk::{end, start};
 
 // One VA range of stage 1, for the definitions: its input size in bits, and its root.
-#[derive(Drop)]
+#[derive(Clone, Copy)]
 pub struct VaRange {
     pub inputsize: u64,
     pub root: Root,
 }
 
 // What registers say of stage 1, for the definitions.
-#[derive(Drop)]
+#[derive(Clone, Copy)]
 pub struct Stage1 {
     pub on: bool,
     pub pamax: u64,
@@ -51,7 +51,7 @@ pub struct Stage1 {
 }
 
 // The same in the words that its walks go by, worked out once for all addresses.
-#[derive(Drop)]
+#[derive(Clone, Copy)]
 pub struct Prepared1 {
     pub on: bool,
     pub pamax: u64,
@@ -105,7 +105,7 @@ fn off(p: Prepared1, a: Access) -> Ending
 }
 
 // Where an access begins: at the entry of a walk of stage 1, or, with stage 1 off, at stage 1's output; or at a fault.
-#[derive(Drop)]
+#[derive(Clone, Copy)]
 pub struct Opening {
     pub ending: Ending,
     pub level: u64,

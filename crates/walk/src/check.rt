@@ -3,14 +3,14 @@ use crate::stop::Stop;
 use attributes::Attributes;
 
 // What one stage makes of its input.
-#[derive(Drop)]
+#[derive(Clone, Copy)]
 pub struct Output {
     pub address: u64,
     pub attributes: Attributes,
     pub level: u64,
 }
 
-#[derive(Drop)]
+#[derive(Clone, Copy)]
 pub enum Checked {
     Passed(Output),
     Stopped(Stop),

@@ -5,7 +5,7 @@ ghost use Rattle.walk.specs.Ends as Ends;
 use descriptor::entry::Turn;
 
 // What ended a translation; Passed is its output.
-#[derive(Drop)]
+#[derive(Clone, Copy)]
 pub enum Ending {
     Passed,
     Translation,
@@ -18,7 +18,7 @@ pub enum Ending {
 }
 
 // Where one stage's translation ended.
-#[derive(Drop)]
+#[derive(Clone, Copy)]
 pub struct End {
     pub ending: Ending,
     // The output address; of an absent descriptor, where it should be.

@@ -1,4 +1,6 @@
 // The table walk of one stage, and stage 2's translation: what they take and give, and their code.
+#![tactic(auto)]
+
 pub mod check;
 pub mod end;
 pub mod stage2;

@@ -24,7 +24,7 @@ use descriptor::{entry, permission, turn};
 use reads::Read;
 
 // What registers say of stage 2, for the definitions.
-#[derive(Drop)]
+#[derive(Clone, Copy)]
 pub struct Stage2 {
     pub on: bool,
     // In bits.
@@ -37,7 +37,7 @@ pub struct Stage2 {
 }
 
 // The same in the words that its walks go by, worked out once for all addresses.
-#[derive(Drop)]
+#[derive(Clone, Copy)]
 pub struct Prepared2 {
     pub on: bool,
     pub inputsize: u64,

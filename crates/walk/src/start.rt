@@ -9,7 +9,7 @@ use crate::table::Table;
 use descriptor::entry::{Geometry, Masks};
 use descriptor::turn;
 
-#[derive(Drop)]
+#[derive(Clone, Copy)]
 pub struct Start {
     // Passed, or the fault that every walk from here meets, at a level.
     pub ending: Ending,

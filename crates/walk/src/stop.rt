@@ -5,13 +5,13 @@ ghost use Rattle.walk.specs.Walk as Walks;
 use descriptor::entry::FaultKind;
 
 // The stage of an answer. Stage 2 translates an IPA; on a walk, that of a stage 1 descriptor.
-#[derive(Drop)]
+#[derive(Clone, Copy)]
 pub enum Stage {
     One,
     Two { ipa: u64, onwalk: bool },
 }
 
-#[derive(Drop)]
+#[derive(Clone, Copy)]
 pub struct Fault {
     pub kind: FaultKind,
     pub stage: Stage,
@@ -19,7 +19,7 @@ pub struct Fault {
 }
 
 // A descriptor that is not in the capture.
-#[derive(Drop)]
+#[derive(Clone, Copy)]
 pub struct Missing {
     pub address: u64,
     pub stage: Stage,
@@ -27,13 +27,13 @@ pub struct Missing {
 }
 
 // A descriptor whose meaning Arm leaves open.
-#[derive(Drop)]
+#[derive(Clone, Copy)]
 pub struct Open {
     pub stage: Stage,
     pub level: u64,
 }
 
-#[derive(Drop)]
+#[derive(Clone, Copy)]
 pub enum Stop {
     Fault(Fault),
     Misaligned(Stage),
