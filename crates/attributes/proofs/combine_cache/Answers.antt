@@ -1,0 +1,11 @@
+-- `combine_cache` meets its contract.
+-- Assumes nothing.
+use Rattle.bits.proofs.Tests.{choices}
+use borrow.Author.Rules.{rules}
+use Rattle.attributes.proofs.combine_cache.Goals as goal
+
+pub returns-then-cache_rank : goal.returns-then-cache_rank
+returns-then-cache_rank c = search choices
+
+pub returns-else-cache_rank : goal.returns-else-cache_rank
+returns-else-cache_rank c = search choices

@@ -1,0 +1,18 @@
+-- `mair_class` meets its contract.
+-- Assumes nothing.
+use Rattle.bits.proofs.Tests.{choices}
+use borrow.Author.Rules.{rules}
+use Rattle.attributes.proofs.Classes.{mair_class}
+use Rattle.attributes.proofs.mair_class.Goals as goal
+
+pub returns-then-byte-eq0-2 : goal.returns-then-byte-eq0-2
+returns-then-byte-eq0-2 c = rw mair_class (search choices)
+
+pub returns-else-byte-eq0-2 : goal.returns-else-byte-eq0-2
+returns-else-byte-eq0-2 c = rw mair_class (search choices)
+
+pub returns-then-byte-eq0-3 : goal.returns-then-byte-eq0-3
+returns-then-byte-eq0-3 c = rw mair_class (search choices)
+
+pub returns-else-byte-eq0-3 : goal.returns-else-byte-eq0-3
+returns-else-byte-eq0-3 c = rw mair_class (search choices)

@@ -1,0 +1,12 @@
+-- `turn::leaf` meets its contract.
+-- Assumes nothing.
+use Rattle.bits.proofs.Tests.{choices}
+use Rattle.descriptor.proofs.Turns.{settled_leaf}
+use borrow.Author.Rules.{rules}
+use Rattle.descriptor.proofs.turn.leaf.Goals as goal
+
+pub returns-then-outside : goal.returns-then-outside
+returns-then-outside c = rw (settled_leaf c.args.g c.args.n c.args.x c.requires.1) (search choices)
+
+pub returns-else-outside : goal.returns-else-outside
+returns-else-outside c = rw (settled_leaf c.args.g c.args.n c.args.x c.requires.1) (search choices)
