@@ -1,0 +1,13 @@
+-- `put_field` meets its contract: a figure has at most twenty digits.
+-- Assumes nothing.
+use borrow.Author.Rules.{rules}
+use native.Mathlib.Omega.{arith}
+use Rattle.ledger.proofs.Digits.{decimal_most}
+use Rattle.ledger.proofs.Fields.{field_put}
+use Rattle.ledger.proofs.line.put_field.Goals as goal
+
+pub put_text-requires : goal.put_text-requires
+put_text-requires c = let most = decimal_most c.args.figure in (omega arith, omega arith)
+
+pub returns : goal.returns
+returns c = field_put c.put_number-next.ensures c.put_text.ensures

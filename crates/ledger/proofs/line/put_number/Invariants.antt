@@ -1,0 +1,13 @@
+-- `put_number` meets its contract: the digits still to be written are those of what is left of the number.
+-- Assumes nothing.
+use borrow.Author.Rules.{rules}
+use native.Mathlib.Omega.{arith}
+use lib.ListN.{length-set}
+use Rattle.ledger.proofs.Digits.{Numbering, numbering_start, numbering_next, numbering_done}
+use Rattle.ledger.proofs.line.put_number.Given as goal
+
+abbrev pub invariant-loop-rest : goal.invariant-loop-rest
+invariant-loop-rest l = Numbering l.n l.at l.initial.page l.page l.here l.rest
+
+abbrev pub decreases-loop-rest : goal.decreases-loop-rest
+decreases-loop-rest l = l.rest
