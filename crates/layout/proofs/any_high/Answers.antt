@@ -1,0 +1,28 @@
+-- `any_high` meets its contract: a bank that ends by 2^48 leaves the verdict to those after it.
+-- Assumes nothing.
+use borrow.Author.Rules.{rules}
+use mathlib.Core.Path.{◌≡◌, ap}
+use mathlib.Core.Bool.{◌||◌}
+use mathlib.Core.List.{List}
+use Prim.Native.Nat.{ℕ, ◌+◌, ◌-◌, ◌<◌}
+use Rattle.bits.proofs.Tests.{told}
+use Rattle.capture.specs.Capture.{ends_high, any_high}
+use Rattle.capture.specs.Calls.{count_of}
+use Rattle.layout.specs.Calls.{bank_by, banks_by}
+use Rattle.layout.proofs.Steps.{from, from_next, from_end, from_start}
+use Rattle.layout.proofs.any_high.Invariants.{step}
+use Rattle.layout.proofs.any_high.Goals as goal
+
+pub returns-then-ends_high : goal.returns-then-ends_high
+unfolding any_high
+returns-then-ends_high c =
+    rw (told c.ends_high.ensures c.if-ends_high.true) at (step _ _ c.loop-i-test.true c.loop-i.invariant)
+
+pub loop-i-preserved : goal.loop-i-preserved
+unfolding any_high
+loop-i-preserved c =
+    rw (told c.ends_high.ensures c.if-ends_high.false) at (step _ _ c.loop-i-test.true c.loop-i.invariant)
+
+pub returns : goal.returns
+unfolding any_high
+returns c = rw (from_end _ _ c.loop-i-test.false) at c.loop-i.invariant

@@ -1,0 +1,16 @@
+-- `write_banks` meets its contract: what is stored from the i-th header on is what is stored from the start.
+-- Assumes nothing.
+use borrow.Author.Rules.{rules}
+use mathlib.Core.Logic.{⊎_elim}
+use mathlib.Core.Path.{sym, ◌∙◌}
+use Prim.Native.Nat.{◌+◌, ◌-◌, ◌≤◌}
+use native.Mathlib.Omega.{arith}
+use lib.ListN.{length, length-set}
+use Rattle.layout.proofs.Banks.{Writing, writing_start, bank_fits, writing_bank, writing_other, writing_done}
+use Rattle.layout.proofs.elf.write_banks.Given as goal
+
+abbrev pub invariant-loop-i : goal.invariant-loop-i
+invariant-loop-i l = Writing l.file l.at l.n l.initial.words l.words l.k l.i
+
+abbrev pub decreases-loop-i : goal.decreases-loop-i
+decreases-loop-i l = l.n - l.i

@@ -1,0 +1,52 @@
+-- `translate2` meets its contract: beyond the input size, at a root that is of no use, or by its walk.
+-- Assumes nothing.
+use borrow.Author.Rules.{rules}
+use borrow.Author.Tests.{eq-eqb, ne_eqb}
+use mathlib.Core.Path.{◌≡◌, sym, ap, ◌∙◌}
+use mathlib.Core.Bool.{false, not}
+use native.Mathlib.Omega.{arith}
+use Rattle.bits.specs.Bits.{beyond}
+use Rattle.descriptor.proofs.Masks.{beyond_above}
+use Rattle.attributes.specs.Attributes.{stage2_attributes}
+use Rattle.walk.specs.Stage2.{uncached2}
+use Rattle.walk.specs.Ends.{faulted}
+use Rattle.walk.specs.declared.table.Root.TheVariants.{Usable}
+use Rattle.walk.specs.Calls.{Fit, root_of, stage2_of}
+use Rattle.walk.proofs.Ends.{starts_usable, starts_unusable}
+use Rattle.walk.proofs.Calls.{ran_outside, ran_unusable, ran_usable}
+use Rattle.walk.proofs.stage2.translate2.Goals as goal
+
+pub returns-then-ipa-above-ne0 : goal.returns-then-ipa-above-ne0
+unfolding faulted
+returns-then-ipa-above-ne0 c =
+    let z = c.args in
+    rw c.stopped.ensures
+    ((
+      ran_outside _ (stage2_of z.p) z.a z.onwalk z.ipa (stage2_attributes (uncached2 (stage2_of z.p) z.a z.onwalk))
+          (sym (beyond_above z.ipa z.p.inputsize) ∙ ap not (ne_eqb _ _ (rw (c.requires.0.above c.requires.4) at c.if-ipa-above-ne0.true))),
+      omega arith,
+    ))
+
+pub walk2-requires : goal.walk2-requires
+walk2-requires c =
+    let usable : (let p = c.args.p in (root_of p.start ≡ Usable p.start.table) × Fit p.start) = starts_usable _ _ c.requires.0.start (sym c.passed.ensures ∙ c.if-passed.true) in
+    let p = c.requires in
+    (usable.1, p.1, p.2, omega (arith, usable.1.small.levels, p.3))
+
+pub returns-then-passed : goal.returns-then-passed
+returns-then-passed c =
+    let inside : (let z = c.args in beyond z.ipa z.p.inputsize ≡ false) = let z = c.args in
+    sym (beyond_above z.ipa z.p.inputsize) ∙ ap not (eq-eqb _ _ (rw (c.requires.0.above c.requires.4) at c.if-ipa-above-ne0.false)) in
+    let usable : (let p = c.args.p in (root_of p.start ≡ Usable p.start.table) × Fit p.start) = starts_usable _ _ c.requires.0.start (sym c.passed.ensures ∙ c.if-passed.true) in
+    let u = usable in (
+      ran_usable _ _ _ _ _ inside u.0 c.walk2.ensures.0,
+      omega (arith, u.1.small.levels, c.walk2.ensures.1),
+    )
+
+pub returns-else-passed : goal.returns-else-passed
+returns-else-passed c =
+    let inside : (let z = c.args in beyond z.ipa z.p.inputsize ≡ false) = let z = c.args in
+    sym (beyond_above z.ipa z.p.inputsize) ∙ ap not (eq-eqb _ _ (rw (c.requires.0.above c.requires.4) at c.if-ipa-above-ne0.false)) in
+    let z = c.args in
+    let u = starts_unusable _ _ c.requires.0.start (sym c.passed.ensures ∙ c.if-passed.false) in
+    rw c.stopped-else-passed.ensures ((ran_unusable _ (stage2_of z.p) z.a z.onwalk z.ipa inside (stage2_attributes (uncached2 (stage2_of z.p) z.a z.onwalk)) u.0 _ u.1 u.2, omega arith))
