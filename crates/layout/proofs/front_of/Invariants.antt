@@ -27,7 +27,7 @@ module _ (words : List ℕ) where
   more {i} h w at e =
       let n : count_of words - (i - 1) ≡ suc (count_of words - i) = omega (arith, h, w.within) in
       let next : suc (i - 1) ≡ i = omega (arith, h) in
-      pub record { within = omega (arith, w.within); is = e ∙ ap₂ larger at w.is ∙ rw (n, next) }
+      record { within = omega (arith, w.within); is = e ∙ ap₂ larger at w.is ∙ rw (n, next) }
 
   pub all : {i : ℕ} {p : Part} → Largest i p → i ≡ 0 → p ≡ front_by words
   all w e = rw (e, sub-zero) at w.is

@@ -53,7 +53,7 @@ module _ (total : ℕ) (words : List ℕ) (i : ℕ) where
   pub goes_on : (count : ℕ) (words₀ : List ℕ) → Leaving total count words₀ words i → i < count → (p : Part) → p ≡ here → Leaving total count words₀ (after words i p) (i + 1)
   goes_on count words₀ l less p e =
       let more : suc (count - (i + 1)) ≡ count - i = omega arith in
-      pub record {
+      record {
         within = omega arith;
         size = simp length-set l.size;
         rest = rw e (turn (count - (i + 1)) ∙ rw more l.rest);

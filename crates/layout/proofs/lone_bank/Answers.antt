@@ -53,21 +53,6 @@ module _ (file : List ℕ) where
         by_test false true x y = rw (e, one, x, y)
         by_test false false x y = rw (e, one, x, y)
 
--- where a bank is alone
-module _ (c : goal.After-of_bank-part) where
-  abbrev k : tie.After-count-banks
-  k = c.before.before.before.before
-
-  abbrev file : List ℕ
-  file = k.before.before.before.before.before.before.args.file.now
-
-  bank : banks file ≡ bank_of c.before.header_at.result ∷ []
-  bank = only file k.before.before.header-count.ensures.0 k.before.headers-at.ensures k.count-banks.ensures c.before.before.if2.false c.before.header_at.ensures
-
-  judge : {v w : Bool} → meets 0 64 c.of-bank.result ≡ v →
-      (let at = k.before.headers-at.result in meets at (at + 56 * k.before.before.header-count.result) c.of-bank.result ≡ w) → Sole file (not v && not w)
-  judge = judged file k.before.before.header-count.ensures.0 k.before.headers-at.ensures (headers k.before.before.before) bank c.of-bank.ensures
-
 pub returns-then-not-is_headed : goal.returns-then-not-is_headed
 returns-then-not-is_headed c = rw c.none_alone.ensures (refused _ (unheaded _ (told c.is_headed.ensures c.if-not-is_headed.true)))
 
@@ -87,7 +72,14 @@ count_banks-banks-requires c =
     there _ headers c.header_count-n.ensures.0 c.headers_at-at.ensures
 
 pub returns-then-meets : goal.returns-then-meets
-returns-then-meets c = rw c.none_alone-then-meets.ensures (refused _ (judge c.before.before.before (told c.meets.ensures c.if-meets.true) refl))
+returns-then-meets c =
+    let headers : (headed c.args.file.now ≡ true) = told c.is_headed.ensures c.if-not-is_headed.false in
+    let bank : banks c.args.file.now ≡ bank_of c.header_at-bank.result ∷ [] =
+        only c.args.file.now c.header_count-n.ensures.0 c.headers_at-at.ensures c.count_banks-banks.ensures c.if-banks-ne1.false c.header_at-bank.ensures in
+    let judge : (v w : Bool) → meets 0 64 c.of_bank-part.result ≡ v →
+        meets c.headers_at-at.result (c.headers_at-at.result + 56 * c.header_count-n.result) c.of_bank-part.result ≡ w → Sole c.args.file.now (not v && not w) =
+        λ v w. judged c.args.file.now c.header_count-n.ensures.0 c.headers_at-at.ensures headers bank c.of_bank-part.ensures in
+    rw c.none_alone-then-meets.ensures (refused _ (judge _ _ (told c.meets.ensures c.if-meets.true) refl))
 
 pub overflow_add-at : goal.overflow_add-at
 overflow_add-at c =
@@ -97,14 +89,28 @@ overflow_add-at c =
 
 pub returns-then-meets-2 : goal.returns-then-meets-2
 returns-then-meets-2 c =
+    let headers : (headed c.args.file.now ≡ true) = told c.is_headed.ensures c.if-not-is_headed.false in
+    let bank : banks c.args.file.now ≡ bank_of c.header_at-bank.result ∷ [] =
+        only c.args.file.now c.header_count-n.ensures.0 c.headers_at-at.ensures c.count_banks-banks.ensures c.if-banks-ne1.false c.header_at-bank.ensures in
+    let judge : (v w : Bool) → meets 0 64 c.of_bank-part.result ≡ v →
+        meets c.headers_at-at.result (c.headers_at-at.result + 56 * c.header_count-n.result) c.of_bank-part.result ≡ w → Sole c.args.file.now (not v && not w) =
+        λ v w. judged c.args.file.now c.header_count-n.ensures.0 c.headers_at-at.ensures headers bank c.of_bank-part.ensures in
+    
     rw c.none_alone-then-meets-2.ensures
-    (refused _ (judge c.before.before.before.before.before (told c.meets.ensures c.if-meets.false) (told c.meets-2.ensures c.if-meets-2.true)))
+    (refused _ (judge _ _ (told c.meets.ensures c.if-meets.false) (told c.meets-2.ensures c.if-meets-2.true)))
 
 pub returns : goal.returns
 returns c =
+    let headers : (headed c.args.file.now ≡ true) = told c.is_headed.ensures c.if-not-is_headed.false in
+    let bank : banks c.args.file.now ≡ bank_of c.header_at-bank.result ∷ [] =
+        only c.args.file.now c.header_count-n.ensures.0 c.headers_at-at.ensures c.count_banks-banks.ensures c.if-banks-ne1.false c.header_at-bank.ensures in
+    let judge : (v w : Bool) → meets 0 64 c.of_bank-part.result ≡ v →
+        meets c.headers_at-at.result (c.headers_at-at.result + 56 * c.header_count-n.result) c.of_bank-part.result ≡ w → Sole c.args.file.now (not v && not w) =
+        λ v w. judged c.args.file.now c.header_count-n.ensures.0 c.headers_at-at.ensures headers bank c.of_bank-part.ensures in
+    
     record {
-      found = sym (judge c.before.before.before.before.before.before (told c.meets.ensures c.if-meets.false) (told c.meets-2.ensures c.if-meets-2.false));
+      found = sym (judge _ _ (told c.meets.ensures c.if-meets.false) (told c.meets-2.ensures c.if-meets-2.false));
       none = λ t. absurd (true≢false t);
-      high = λ t. rw (bank c.before.before.before.before.before.before) (c.ends_high.ensures ∙ sym (one_high _));
-      front = λ t. rw (bank c.before.before.before.before.before.before) (c.ahead.ensures ∙ ap ahead (c.of_bank-part.ensures ∙ sym (front_sole _)));
+      high = λ t. rw bank (c.ends_high.ensures ∙ sym (one_high _));
+      front = λ t. rw bank (c.ahead.ensures ∙ ap ahead (c.of_bank-part.ensures ∙ sym (front_sole _)));
     }

@@ -1,21 +1,22 @@
 -- `meets` meets its contract: each choice of a bound is that of its definition.
 -- Assumes nothing.
 use mathlib.Core.Path.{◌≡◌, ap₂}
-use mathlib.Core.Bool.{Bool, true, false}
-use mathlib.Core.Logic.{◌⊎◌, ⊎_elim}
-use Prim.Native.Nat.{ℕ}
-use lib.Dec.{ltb}
+use lib.Dec.{ltb, leb}
 use borrow.Author.Tests.{le-leb, lt-leb}
 use Rattle.bits.specs.Bits.{pick}
 use Rattle.bits.proofs.Tests.{then, else}
 use Rattle.layout.proofs.apart.meets.Goals as goal
-
--- a number that came by either way of a test
-chosen : {T E : Type 0} (b : Bool) (x p q : ℕ) → (T → b ≡ true) → (E → b ≡ false) → ((t : T) × (x ≡ p)) ⊎ ((e : E) × (x ≡ q)) → x ≡ pick b p q
-chosen b x p q t e = ⊎_elim (λ w. then b x p q (t w.0) w.1) (λ w. else b x p q (e w.0) w.1)
+use Rattle.layout.proofs.apart.meets.Goals.{then-from-first, else-from-first, then-to-end, else-to-end}
 
 pub returns : goal.returns
 returns c =
-    ap₂ ltb
-    (chosen _ _ _ _ (λ t. le-leb _ _ t.taken) (λ e. lt-leb _ _ e.left) c.if-from-first.branch)
-    (chosen _ _ _ _ (λ t. le-leb _ _ t.taken) (λ e. lt-leb _ _ e.left) c.if-to-end.branch)
+    let p = c.args.p in
+    let low : c.if-from-first.low ≡ pick (leb c.args.from p.from) p.from c.args.from = elim c.if-from-first.branch [
+      then-from-first w ↦ then _ _ _ _ (le-leb _ _ w.if-from-first.true) w.low-is
+    | else-from-first w ↦ else _ _ _ _ (lt-leb _ _ w.if-from-first.false) w.low-is
+    ] in
+    let high : c.if-to-end.high ≡ pick (leb c.args.to p.to) c.args.to p.to = elim c.if-to-end.branch [
+      then-to-end w ↦ then _ _ _ _ (le-leb _ _ w.if-to-end.true) w.high-is
+    | else-to-end w ↦ else _ _ _ _ (lt-leb _ _ w.if-to-end.false) w.high-is
+    ] in
+    ap₂ ltb low high

@@ -1,13 +1,13 @@
 -- `write_banks` meets its contract: what is stored from the i-th header on is what is stored from the start.
 -- Assumes nothing.
 use borrow.Author.Rules.{rules}
-use mathlib.Core.Logic.{⊎_elim}
 use mathlib.Core.Path.{sym, ◌∙◌}
 use Prim.Native.Nat.{◌+◌, ◌-◌, ◌≤◌}
 use native.Mathlib.Omega.{arith}
 use lib.ListN.{length, length-set}
 use Rattle.layout.proofs.Banks.{Writing, writing_start, bank_fits, writing_bank, writing_other, writing_done}
 use Rattle.layout.proofs.elf.write_banks.Goals as goal
+use Rattle.layout.proofs.elf.write_banks.Goals.{then-is_bank, else-is_bank}
 
 pub bounds-words-k : goal.bounds-words-k
 bounds-words-k c =
@@ -27,10 +27,10 @@ bounds-words-k-then-is_bank-2 c =
 pub loop-i-preserved : goal.loop-i-preserved
 loop-i-preserved c =
     let told = c.is_bank.ensures in
-    ⊎_elim
-    (λ w. rw (w.2, w.3) (writing_bank _ _ _ c.loop-i.invariant _ c.loop-i-test.true (sym told ∙ w.0.taken) w.1.ensures))
-    (λ w. rw (w.1, w.2) (writing_other _ _ _ c.loop-i.invariant c.loop-i-test.true (sym told ∙ w.0.left)))
-    c.if-is_bank.branch
+    elim c.if-is_bank.branch [
+      then-is_bank w ↦ rw (w.words-is, w.k-is) (writing_bank _ _ _ c.loop-i.invariant _ c.loop-i-test.true (sym told ∙ w.if-is_bank.true) w.header_at-bank.ensures)
+    | else-is_bank w ↦ rw (w.words-is, w.k-is) (writing_other _ _ _ c.loop-i.invariant c.loop-i-test.true (sym told ∙ w.if-is_bank.false))
+    ]
 
 pub returns : goal.returns
 returns c = writing_done _ _ _ c.loop-i.invariant c.loop-i-test.false

@@ -1,0 +1,12 @@
+-- `access` meets its contract: it begins, or it stops at once.
+-- Assumes nothing.
+use borrow.Author.Rules.{rules}
+use mathlib.Core.Path.{sym, ◌∙◌}
+use native.Mathlib.Omega.{arith}
+use Rattle.stages.proofs.Openings.{opens_stopped}
+use Rattle.stages.proofs.both.access.Goals as goal
+
+pub returns-else-passed : goal.returns-else-passed
+returns-else-passed c =
+    rw (c.first.ensures, c.stopped.ensures)
+    ((opens_stopped _ _ _ _ _ _ c.opening_of-o.ensures (sym c.passed.ensures ∙ c.if-passed.false), omega arith))

@@ -1,0 +1,13 @@
+-- `uncached2` meets its contract.
+-- Assumes nothing.
+use borrow.Author.Rules.{rules}
+use Rattle.bits.specs.Bits.{pick}
+use Rattle.stages.proofs.both.uncached2.Goals as goal
+
+pub returns-then-is_fetch : goal.returns-then-is_fetch
+unfolding pick
+returns-then-is_fetch c = rw (← c.is_fetch.ensures, c.if-is_fetch.true)
+
+pub returns-else-is_fetch : goal.returns-else-is_fetch
+unfolding pick
+returns-else-is_fetch c = rw (← c.is_fetch.ensures, c.if-is_fetch.false)
