@@ -22,6 +22,7 @@ use Rattle.stages.specs.Calls.{stage1_of}
 use Rattle.stages.proofs.Calls.{Placed, seconded_on, seconded_off, placed_on, placed_off, Going, going_few, going_same, going_ends, going_stops, going_on, going_entry, going_absent, going_down, going_leaf, going_over}
 use Rattle.stages.proofs.Openings.{opens_fit, opens_within, opens_going}
 use Rattle.stages.proofs.both.walk1.Goals as goal
+use Rattle.stages.proofs.both.walk1.Goals.{then-on+else-not-passed+else-not-walking, else-on+else-not-walking-2}
 
 pub overflow_sub-left : goal.overflow_sub-left
 overflow_sub-left c = (opens_within _ _ _ c.requires.4).some
@@ -56,10 +57,10 @@ pub returns-in-Absent : goal.returns-in-Absent
 returns-in-Absent c =
     let placed : (let x = c.args in
     let l = c.loop-log in
-    Placed (captured x.front x.parts.now x.file.now) (stage2_of x.q) x.a l.walking l.ipa l.log l.k c.if-on.at c.if-on.k c.if-on.log) = ⊎_elim
-    (λ w. rw (w.8, w.9, w.10) (placed_on c.loop-log.invariant (seconded_on _ _ _ _ w.0.taken _ _ w.2.ensures.0) (sym w.5.ensures ∙ not-false _ w.6.left) (not-false _ w.7.left) w.2.ensures.1))
-    (λ w. rw (w.2, w.3, w.4) (placed_off _ _ _ _ w.0.left (not-false _ w.1.left)))
-    c.if-on.branch in
+    Placed (captured x.front x.parts.now x.file.now) (stage2_of x.q) x.a l.walking l.ipa l.log l.k c.if-on.at c.if-on.k c.if-on.log) = elim c.if-on.branch [
+      then-on+else-not-passed+else-not-walking w ↦ rw (w.log-is, w.k-is, w.at-is) (placed_on c.loop-log.invariant (seconded_on _ _ _ _ w.if-on.true _ _ w.translate2-r.ensures.0) (sym w.passed.ensures ∙ w.if-not-passed.false) w.if-not-walking.false w.translate2-r.ensures.1)
+    | else-on+else-not-walking-2 w ↦ rw (w.log-is, w.k-is, w.at-is) (placed_off _ _ _ _ w.if-on.false w.if-not-walking-2.false)
+    ] in
     let entry : (let l = c.loop-log in let g = c.args.o.start.table.geometry in (l.left ≤ 3) × (l.shift ≡ shift g l.left) × (l.shift < 48) × (l.k + 5 * suc l.left ≤ 20)) = going_entry c.loop-log.invariant placed.walks in
     let few : (c.if-on.k ≤ 19) = omega (arith, placed.few, entry.3) in
     let absent = c.in-Absent.is in
@@ -70,10 +71,10 @@ pub turn-turn-requires : goal.turn-turn-requires
 turn-turn-requires c =
     let placed : (let x = c.args in
     let l = c.loop-log in
-    Placed (captured x.front x.parts.now x.file.now) (stage2_of x.q) x.a l.walking l.ipa l.log l.k c.if-on.at c.if-on.k c.if-on.log) = ⊎_elim
-    (λ w. rw (w.8, w.9, w.10) (placed_on c.loop-log.invariant (seconded_on _ _ _ _ w.0.taken _ _ w.2.ensures.0) (sym w.5.ensures ∙ not-false _ w.6.left) (not-false _ w.7.left) w.2.ensures.1))
-    (λ w. rw (w.2, w.3, w.4) (placed_off _ _ _ _ w.0.left (not-false _ w.1.left)))
-    c.if-on.branch in
+    Placed (captured x.front x.parts.now x.file.now) (stage2_of x.q) x.a l.walking l.ipa l.log l.k c.if-on.at c.if-on.k c.if-on.log) = elim c.if-on.branch [
+      then-on+else-not-passed+else-not-walking w ↦ rw (w.log-is, w.k-is, w.at-is) (placed_on c.loop-log.invariant (seconded_on _ _ _ _ w.if-on.true _ _ w.translate2-r.ensures.0) (sym w.passed.ensures ∙ w.if-not-passed.false) w.if-not-walking.false w.translate2-r.ensures.1)
+    | else-on+else-not-walking-2 w ↦ rw (w.log-is, w.k-is, w.at-is) (placed_off _ _ _ _ w.if-on.false w.if-not-walking-2.false)
+    ] in
     let fit : (Fit c.args.o.start) = (opens_fit _ _ _ c.requires.4 c.requires.5 (going_on c.loop-log.invariant placed.walks)).1 in
     let f = fit in (f.masks, f.small.block)
 
@@ -86,10 +87,10 @@ pub overflow_sub-shift : goal.overflow_sub-shift
 overflow_sub-shift c =
     let placed : (let x = c.args in
     let l = c.loop-log in
-    Placed (captured x.front x.parts.now x.file.now) (stage2_of x.q) x.a l.walking l.ipa l.log l.k c.if-on.at c.if-on.k c.if-on.log) = ⊎_elim
-    (λ w. rw (w.8, w.9, w.10) (placed_on c.loop-log.invariant (seconded_on _ _ _ _ w.0.taken _ _ w.2.ensures.0) (sym w.5.ensures ∙ not-false _ w.6.left) (not-false _ w.7.left) w.2.ensures.1))
-    (λ w. rw (w.2, w.3, w.4) (placed_off _ _ _ _ w.0.left (not-false _ w.1.left)))
-    c.if-on.branch in
+    Placed (captured x.front x.parts.now x.file.now) (stage2_of x.q) x.a l.walking l.ipa l.log l.k c.if-on.at c.if-on.k c.if-on.log) = elim c.if-on.branch [
+      then-on+else-not-passed+else-not-walking w ↦ rw (w.log-is, w.k-is, w.at-is) (placed_on c.loop-log.invariant (seconded_on _ _ _ _ w.if-on.true _ _ w.translate2-r.ensures.0) (sym w.passed.ensures ∙ w.if-not-passed.false) w.if-not-walking.false w.translate2-r.ensures.1)
+    | else-on+else-not-walking-2 w ↦ rw (w.log-is, w.k-is, w.at-is) (placed_off _ _ _ _ w.if-on.false w.if-not-walking-2.false)
+    ] in
     let entry : (let l = c.loop-log in let g = c.args.o.start.table.geometry in (l.left ≤ 3) × (l.shift ≡ shift g l.left) × (l.shift < 48) × (l.k + 5 * suc l.left ≤ 20)) = going_entry c.loop-log.invariant placed.walks in
     let more : (0 < c.loop-log.left) = down_more _ _ _ (sym c.turn-turn.ensures ∙ is_down _ (sym c.leads_down.ensures ∙ c.if-leads_down.true)) in
     let g = c.args.o.start.table.geometry in
@@ -100,10 +101,10 @@ pub next_entry-ipa-requires : goal.next_entry-ipa-requires
 next_entry-ipa-requires c =
     let placed : (let x = c.args in
     let l = c.loop-log in
-    Placed (captured x.front x.parts.now x.file.now) (stage2_of x.q) x.a l.walking l.ipa l.log l.k c.if-on.at c.if-on.k c.if-on.log) = ⊎_elim
-    (λ w. rw (w.8, w.9, w.10) (placed_on c.loop-log.invariant (seconded_on _ _ _ _ w.0.taken _ _ w.2.ensures.0) (sym w.5.ensures ∙ not-false _ w.6.left) (not-false _ w.7.left) w.2.ensures.1))
-    (λ w. rw (w.2, w.3, w.4) (placed_off _ _ _ _ w.0.left (not-false _ w.1.left)))
-    c.if-on.branch in
+    Placed (captured x.front x.parts.now x.file.now) (stage2_of x.q) x.a l.walking l.ipa l.log l.k c.if-on.at c.if-on.k c.if-on.log) = elim c.if-on.branch [
+      then-on+else-not-passed+else-not-walking w ↦ rw (w.log-is, w.k-is, w.at-is) (placed_on c.loop-log.invariant (seconded_on _ _ _ _ w.if-on.true _ _ w.translate2-r.ensures.0) (sym w.passed.ensures ∙ w.if-not-passed.false) w.if-not-walking.false w.translate2-r.ensures.1)
+    | else-on+else-not-walking-2 w ↦ rw (w.log-is, w.k-is, w.at-is) (placed_off _ _ _ _ w.if-on.false w.if-not-walking-2.false)
+    ] in
     let fit : (Fit c.args.o.start) = (opens_fit _ _ _ c.requires.4 c.requires.5 (going_on c.loop-log.invariant placed.walks)).1 in
     let entry : (let l = c.loop-log in let g = c.args.o.start.table.geometry in (l.left ≤ 3) × (l.shift ≡ shift g l.left) × (l.shift < 48) × (l.k + 5 * suc l.left ≤ 20)) = going_entry c.loop-log.invariant placed.walks in
     let f = fit in
@@ -114,10 +115,10 @@ unfolding pick
 loop-log-smaller-then-leads_down c =
     let placed : (let x = c.args in
     let l = c.loop-log in
-    Placed (captured x.front x.parts.now x.file.now) (stage2_of x.q) x.a l.walking l.ipa l.log l.k c.if-on.at c.if-on.k c.if-on.log) = ⊎_elim
-    (λ w. rw (w.8, w.9, w.10) (placed_on c.loop-log.invariant (seconded_on _ _ _ _ w.0.taken _ _ w.2.ensures.0) (sym w.5.ensures ∙ not-false _ w.6.left) (not-false _ w.7.left) w.2.ensures.1))
-    (λ w. rw (w.2, w.3, w.4) (placed_off _ _ _ _ w.0.left (not-false _ w.1.left)))
-    c.if-on.branch in
+    Placed (captured x.front x.parts.now x.file.now) (stage2_of x.q) x.a l.walking l.ipa l.log l.k c.if-on.at c.if-on.k c.if-on.log) = elim c.if-on.branch [
+      then-on+else-not-passed+else-not-walking w ↦ rw (w.log-is, w.k-is, w.at-is) (placed_on c.loop-log.invariant (seconded_on _ _ _ _ w.if-on.true _ _ w.translate2-r.ensures.0) (sym w.passed.ensures ∙ w.if-not-passed.false) w.if-not-walking.false w.translate2-r.ensures.1)
+    | else-on+else-not-walking-2 w ↦ rw (w.log-is, w.k-is, w.at-is) (placed_off _ _ _ _ w.if-on.false w.if-not-walking-2.false)
+    ] in
     let more : (0 < c.loop-log.left) = down_more _ _ _ (sym c.turn-turn.ensures ∙ is_down _ (sym c.leads_down.ensures ∙ c.if-leads_down.true)) in
     rw placed.walks (omega (arith, more))
 
@@ -125,10 +126,10 @@ pub loop-log-preserved-then-leads_down : goal.loop-log-preserved-then-leads_down
 loop-log-preserved-then-leads_down c =
     let placed : (let x = c.args in
     let l = c.loop-log in
-    Placed (captured x.front x.parts.now x.file.now) (stage2_of x.q) x.a l.walking l.ipa l.log l.k c.if-on.at c.if-on.k c.if-on.log) = ⊎_elim
-    (λ w. rw (w.8, w.9, w.10) (placed_on c.loop-log.invariant (seconded_on _ _ _ _ w.0.taken _ _ w.2.ensures.0) (sym w.5.ensures ∙ not-false _ w.6.left) (not-false _ w.7.left) w.2.ensures.1))
-    (λ w. rw (w.2, w.3, w.4) (placed_off _ _ _ _ w.0.left (not-false _ w.1.left)))
-    c.if-on.branch in
+    Placed (captured x.front x.parts.now x.file.now) (stage2_of x.q) x.a l.walking l.ipa l.log l.k c.if-on.at c.if-on.k c.if-on.log) = elim c.if-on.branch [
+      then-on+else-not-passed+else-not-walking w ↦ rw (w.log-is, w.k-is, w.at-is) (placed_on c.loop-log.invariant (seconded_on _ _ _ _ w.if-on.true _ _ w.translate2-r.ensures.0) (sym w.passed.ensures ∙ w.if-not-passed.false) w.if-not-walking.false w.translate2-r.ensures.1)
+    | else-on+else-not-walking-2 w ↦ rw (w.log-is, w.k-is, w.at-is) (placed_off _ _ _ _ w.if-on.false w.if-not-walking-2.false)
+    ] in
     let more : (0 < c.loop-log.left) = down_more _ _ _ (sym c.turn-turn.ensures ∙ is_down _ (sym c.leads_down.ensures ∙ c.if-leads_down.true)) in
     rw (c.next_entry-ipa.ensures, log_set _ _ _ _ _ c.read_logged.ensures.1 c.in-Word.is)
     (going_down c.loop-log.invariant placed (sym (c.read_logged.ensures.0 stage_1) ∙ c.in-Word.is)
@@ -141,10 +142,10 @@ pub returns-then-not-on : goal.returns-then-not-on
 returns-then-not-on c =
     let placed : (let x = c.args in
     let l = c.loop-log in
-    Placed (captured x.front x.parts.now x.file.now) (stage2_of x.q) x.a l.walking l.ipa l.log l.k c.if-on.at c.if-on.k c.if-on.log) = ⊎_elim
-    (λ w. rw (w.8, w.9, w.10) (placed_on c.loop-log.invariant (seconded_on _ _ _ _ w.0.taken _ _ w.2.ensures.0) (sym w.5.ensures ∙ not-false _ w.6.left) (not-false _ w.7.left) w.2.ensures.1))
-    (λ w. rw (w.2, w.3, w.4) (placed_off _ _ _ _ w.0.left (not-false _ w.1.left)))
-    c.if-on.branch in
+    Placed (captured x.front x.parts.now x.file.now) (stage2_of x.q) x.a l.walking l.ipa l.log l.k c.if-on.at c.if-on.k c.if-on.log) = elim c.if-on.branch [
+      then-on+else-not-passed+else-not-walking w ↦ rw (w.log-is, w.k-is, w.at-is) (placed_on c.loop-log.invariant (seconded_on _ _ _ _ w.if-on.true _ _ w.translate2-r.ensures.0) (sym w.passed.ensures ∙ w.if-not-passed.false) w.if-not-walking.false w.translate2-r.ensures.1)
+    | else-on+else-not-walking-2 w ↦ rw (w.log-is, w.k-is, w.at-is) (placed_off _ _ _ _ w.if-on.false w.if-not-walking-2.false)
+    ] in
     let off = c.if-not-on.true in
     let now = going_leaf c.loop-log.invariant placed (sym (c.read_logged.ensures.0 stage_1) ∙ c.in-Word.is)
     (rw c.turn-turn.ensures at (sym c.leads_down.ensures ∙ c.if-leads_down.false)) _ (rw c.turn-turn.ensures at c.at_entry-ended.ensures)
@@ -158,20 +159,20 @@ unfolding pick
 loop-log-smaller c =
     let placed : (let x = c.args in
     let l = c.loop-log in
-    Placed (captured x.front x.parts.now x.file.now) (stage2_of x.q) x.a l.walking l.ipa l.log l.k c.if-on.at c.if-on.k c.if-on.log) = ⊎_elim
-    (λ w. rw (w.8, w.9, w.10) (placed_on c.loop-log.invariant (seconded_on _ _ _ _ w.0.taken _ _ w.2.ensures.0) (sym w.5.ensures ∙ not-false _ w.6.left) (not-false _ w.7.left) w.2.ensures.1))
-    (λ w. rw (w.2, w.3, w.4) (placed_off _ _ _ _ w.0.left (not-false _ w.1.left)))
-    c.if-on.branch in
+    Placed (captured x.front x.parts.now x.file.now) (stage2_of x.q) x.a l.walking l.ipa l.log l.k c.if-on.at c.if-on.k c.if-on.log) = elim c.if-on.branch [
+      then-on+else-not-passed+else-not-walking w ↦ rw (w.log-is, w.k-is, w.at-is) (placed_on c.loop-log.invariant (seconded_on _ _ _ _ w.if-on.true _ _ w.translate2-r.ensures.0) (sym w.passed.ensures ∙ w.if-not-passed.false) w.if-not-walking.false w.translate2-r.ensures.1)
+    | else-on+else-not-walking-2 w ↦ rw (w.log-is, w.k-is, w.at-is) (placed_off _ _ _ _ w.if-on.false w.if-not-walking-2.false)
+    ] in
     rw placed.walks (omega arith)
 
 pub loop-log-preserved : goal.loop-log-preserved
 loop-log-preserved c =
     let placed : (let x = c.args in
     let l = c.loop-log in
-    Placed (captured x.front x.parts.now x.file.now) (stage2_of x.q) x.a l.walking l.ipa l.log l.k c.if-on.at c.if-on.k c.if-on.log) = ⊎_elim
-    (λ w. rw (w.8, w.9, w.10) (placed_on c.loop-log.invariant (seconded_on _ _ _ _ w.0.taken _ _ w.2.ensures.0) (sym w.5.ensures ∙ not-false _ w.6.left) (not-false _ w.7.left) w.2.ensures.1))
-    (λ w. rw (w.2, w.3, w.4) (placed_off _ _ _ _ w.0.left (not-false _ w.1.left)))
-    c.if-on.branch in
+    Placed (captured x.front x.parts.now x.file.now) (stage2_of x.q) x.a l.walking l.ipa l.log l.k c.if-on.at c.if-on.k c.if-on.log) = elim c.if-on.branch [
+      then-on+else-not-passed+else-not-walking w ↦ rw (w.log-is, w.k-is, w.at-is) (placed_on c.loop-log.invariant (seconded_on _ _ _ _ w.if-on.true _ _ w.translate2-r.ensures.0) (sym w.passed.ensures ∙ w.if-not-passed.false) w.if-not-walking.false w.translate2-r.ensures.1)
+    | else-on+else-not-walking-2 w ↦ rw (w.log-is, w.k-is, w.at-is) (placed_off _ _ _ _ w.if-on.false w.if-not-walking-2.false)
+    ] in
     rw (c.output_address-output.ensures, log_set _ _ _ _ _ c.read_logged.ensures.1 c.in-Word.is)
     (going_leaf c.loop-log.invariant placed (sym (c.read_logged.ensures.0 stage_1) ∙ c.in-Word.is)
     (rw c.turn-turn.ensures at (sym c.leads_down.ensures ∙ c.if-leads_down.false)) _ (rw c.turn-turn.ensures at c.at_entry-ended.ensures)
@@ -181,10 +182,10 @@ pub returns-else-passed : goal.returns-else-passed
 returns-else-passed c =
     let placed : (let x = c.args in
     let l = c.loop-log in
-    Placed (captured x.front x.parts.now x.file.now) (stage2_of x.q) x.a l.walking l.ipa l.log l.k c.if-on.at c.if-on.k c.if-on.log) = ⊎_elim
-    (λ w. rw (w.8, w.9, w.10) (placed_on c.loop-log.invariant (seconded_on _ _ _ _ w.0.taken _ _ w.2.ensures.0) (sym w.5.ensures ∙ not-false _ w.6.left) (not-false _ w.7.left) w.2.ensures.1))
-    (λ w. rw (w.2, w.3, w.4) (placed_off _ _ _ _ w.0.left (not-false _ w.1.left)))
-    c.if-on.branch in
+    Placed (captured x.front x.parts.now x.file.now) (stage2_of x.q) x.a l.walking l.ipa l.log l.k c.if-on.at c.if-on.k c.if-on.log) = elim c.if-on.branch [
+      then-on+else-not-passed+else-not-walking w ↦ rw (w.log-is, w.k-is, w.at-is) (placed_on c.loop-log.invariant (seconded_on _ _ _ _ w.if-on.true _ _ w.translate2-r.ensures.0) (sym w.passed.ensures ∙ w.if-not-passed.false) w.if-not-walking.false w.translate2-r.ensures.1)
+    | else-on+else-not-walking-2 w ↦ rw (w.log-is, w.k-is, w.at-is) (placed_off _ _ _ _ w.if-on.false w.if-not-walking-2.false)
+    ] in
     let entry : (let l = c.loop-log in let g = c.args.o.start.table.geometry in (l.left ≤ 3) × (l.shift ≡ shift g l.left) × (l.shift < 48) × (l.k + 5 * suc l.left ≤ 20)) = going_entry c.loop-log.invariant placed.walks in
     let few : (c.if-on.k ≤ 19) = omega (arith, placed.few, entry.3) in
     rw (c.first-else-passed.ensures, c.stopped.ensures, log_set _ _ _ _ _ c.read_logged.ensures.1 c.in-Word.is)
