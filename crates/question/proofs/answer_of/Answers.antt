@@ -9,21 +9,13 @@ use Rattle.stages.specs.declared.stage1.Stage1.{Stage1}
 use Rattle.stages.specs.declared.both.Arrival.{Arrival}
 use Rattle.stages.specs.declared.both.Memory.{Memory}
 use Rattle.answers.specs.Answers.{answer}
-use Rattle.question.proofs.answer_of.Statement.{statement}
-use Rattle.question.proofs.answer_of.Tie as tie
+use Rattle.question.proofs.answer_of.Goals as goal
 
 -- attributes go by nothing else of the stages
 remembered : (s1 : Stage1) (s2 : Stage2) (a : Access) (r : Arrival) (m : Memory) → m ≡ memory_of s1 s2 → arrived (memory1 m) (memory2 m) a r ≡ arrived s1 s2 a r
 unfolding arrived
 remembered s1 s2 a r m e = ap (λ x. arrived (memory1 x) (memory2 x) a r) e
 
-pub answer_of_spec : {M : Type 1} → statement M
-answer_of_spec =
-    tie.close
-    (tie.spec
-    (λ c κs. search rules)
-    (λ c κs. search rules)
-    (λ c κs. search rules)
-    (λ c.
-    let b = c.before in
-    c.answered.ensures ∙ ap (answer _) (b.reached-by.ensures ∙ remembered _ _ _ _ _ b.before.memory.ensures)))
+pub returns : goal.returns
+returns c =
+    c.answered.ensures ∙ ap (answer _) (c.reached_by-reached.ensures ∙ remembered _ _ _ _ _ c.memory.ensures)

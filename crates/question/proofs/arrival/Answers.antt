@@ -21,8 +21,7 @@ use Rattle.settings.specs.Settings.{settings}
 use Rattle.regime.specs.Roots.{stage1, stage2}
 use Rattle.regime.specs.Calls.{sided1, narrowed2}
 use Rattle.regime.proofs.Narrowed.{access_sided, arrived_ranged}
-use Rattle.question.proofs.arrival.Statement.{statement}
-use Rattle.question.proofs.arrival.Tie as tie
+use Rattle.question.proofs.arrival.Goals as goal
 
 -- the access by the stages as they were prepared is the access
 ran_by : (m : Request → Read) (r : El2) (g : El1) (a : Access) (log log' : List ℕ) (last : Arrival) (s1 : Stage1) (s2 : Stage2) →
@@ -33,17 +32,6 @@ ran_by m r g a log log' last s1 s2 accepted fits one two ran =
     let s = sided1 (bit a.address 55) r g in
     rw (← access_sided r g accepted a fits, ← arrived_ranged r g s.lower s.upper a last) (rw (one, two) at ran)
 
-pub arrival_spec : {M : Type 1} → statement M
-arrival_spec =
-    tie.close
-    (tie.spec
-    (λ c κs. c.before.before.before.requires.0)
-    (λ c κs. tt)
-    (λ c κs.
-    let p = c.before.before.before.before.before.before.requires in
-    (c.before.before.prepared1-at.ensures.1, c.before.prepared2.ensures.1, p.1, p.2, p.3))
-    (λ c. search rules)
-    (λ c.
-    let k = c.before.before.before.before in
-    let z = k.before.before.before.before.before in
-    ran_by _ _ _ z.args.a _ _ _ _ _ z.requires.0 k.before.prepared1-at.ensures.2 k.before.prepared1-at.ensures.0 k.prepared2.ensures.0 c.before.before.access.ensures.0))
+pub returns : goal.returns
+returns c =
+    ran_by _ _ _ c.args.a _ _ _ _ _ c.requires.0 c.prepared1_at-p.ensures.2 c.prepared1_at-p.ensures.0 c.prepared2-q.ensures.0 c.access.ensures.0

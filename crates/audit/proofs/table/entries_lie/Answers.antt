@@ -1,0 +1,21 @@
+-- `entries_lie` meets its contract: an entry that is clean leaves the answer to those after it.
+-- Assumes nothing.
+use borrow.Author.Rules.{rules}
+use borrow.Author.Tests.{not-true, not-false}
+use mathlib.Core.Path.{sym, ap, ◌∙◌}
+use native.Mathlib.Omega.{arith}
+use Rattle.capture.specs.Calls.{captured}
+use Rattle.audit.specs.Calls.{entry_lies, is_clean}
+use Rattle.audit.proofs.Calls.{Left, left_all, left_next, left_found, left_none}
+use Rattle.audit.proofs.table.entries_lie.Goals as goal
+
+pub returns-then-not-is_clean : goal.returns-then-not-is_clean
+returns-then-not-is_clean c =
+    c.entry_lies-lies.ensures ∙ left_found _ _ _ c.loop-left-test.true (rw (← c.entry_lies-lies.ensures) (sym c.is_clean.ensures ∙ c.if-not-is_clean.true)) c.loop-left.invariant
+
+pub loop-left-preserved : goal.loop-left-preserved
+loop-left-preserved c =
+    left_next _ _ _ c.loop-left-test.true (rw (← c.entry_lies-lies.ensures) (sym c.is_clean.ensures ∙ c.if-not-is_clean.false)) c.loop-left.invariant
+
+pub returns : goal.returns
+returns c = left_none _ _ _ c.loop-left-test.false c.loop-left.invariant

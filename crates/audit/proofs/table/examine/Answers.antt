@@ -1,0 +1,24 @@
+-- `examine` meets its contract, by the type of the descriptor.
+-- Assumes nothing.
+use borrow.Author.Rules.{rules}
+use Prim.Native.Nat.{◌≤◌, ◌^◌}
+use native.Mathlib.Omega.{arith}
+use lib.Pow.{pow_mono}
+use Rattle.descriptor.specs.Entry.{shift}
+use Rattle.descriptor.proofs.Masks.{upper_small}
+use Rattle.audit.specs.Audit.{examine_as}
+use Rattle.audit.proofs.table.examine.Goals as goal
+
+pub returns-in-Invalid : goal.returns-in-Invalid
+unfolding examine_as
+returns-in-Invalid c = rw (← c.descriptor_type-kind.ensures, c.in-Invalid.is)
+
+pub returns-in-Table : goal.returns-in-Table
+unfolding examine_as
+returns-in-Table c =
+    rw (← c.descriptor_type-kind.ensures, c.in-Table.is, ← c.upper.ensures, ← c.is_listed-listed.ensures) c.found_unless.ensures
+
+pub returns-in-Leaf : goal.returns-in-Leaf
+unfolding examine_as
+returns-in-Leaf c =
+    rw (← c.descriptor_type-kind.ensures, c.in-Leaf.is, ← c.upper-in-Leaf.ensures, ← c.two_to.ensures, ← c.granted-granted.ensures) c.found_unless-in-Leaf.ensures
