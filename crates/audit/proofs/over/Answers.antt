@@ -15,12 +15,6 @@ use Rattle.audit.proofs.Calls.{formed}
 use Rattle.audit.proofs.Telling.{told_high, told_item, told_lists, told_off, told_from}
 use Rattle.audit.proofs.over.Goals as goal
 
--- what the lists' test says, with tables of the size that it was given
-lists : (c : tie.After-well-formed) →
-    let z = c.before.before.before.before.before.before.before.before.before.before.before.args in
-    c.well-formed-2.result ≡ well_formed (table_size z.r) z.grants.now z.counts.now z.tables.now z.levels.now
-lists c = rw c.before.table_size_lem.ensures.0 at c.well-formed-2.ensures
-
 pub returns-then-high : goal.returns-then-high
 returns-then-high c = told_high _ _ _ _ _ _ _ c.if-high.true
 
@@ -30,19 +24,25 @@ returns-then-item-ne0 c =
 
 pub returns-then-not-well_formed : goal.returns-then-not-well_formed
 returns-then-not-well_formed c =
-    told_lists _ _ _ _ _ _ _ c.if-high.false (sym c.of_audit-item.ensures ∙ c.if-item-ne0.false) (sym (lists c.before) ∙ c.if-not-well_formed.true)
+    let lists : (let z = c.args in
+    c.well_formed-2.result ≡ well_formed (table_size z.r) z.grants.now z.counts.now z.tables.now z.levels.now) = rw c.table_size.ensures.0 at c.well_formed-2.ensures in
+    told_lists _ _ _ _ _ _ _ c.if-high.false (sym c.of_audit-item.ensures ∙ c.if-item-ne0.false) (sym lists ∙ c.if-not-well_formed.true)
 
 pub returns-then-not-stage2_on : goal.returns-then-not-stage2_on
 returns-then-not-stage2_on c =
-    told_off _ _ _ _ _ _ _ c.if-high.false (sym c.of_audit-item.ensures ∙ c.if-item-ne0.false) (sym (lists c.before.before.before) ∙ c.if-not-well_formed.false)
+    let lists : (let z = c.args in
+    c.well_formed-2.result ≡ well_formed (table_size z.r) z.grants.now z.counts.now z.tables.now z.levels.now) = rw c.table_size.ensures.0 at c.well_formed-2.ensures in
+    told_off _ _ _ _ _ _ _ c.if-high.false (sym c.of_audit-item.ensures ∙ c.if-item-ne0.false) (sym lists ∙ c.if-not-well_formed.false)
     (sym c.stage2_on.ensures ∙ c.if-not-stage2_on.true)
 
 pub returns-then-not-passed : goal.returns-then-not-passed
 unfolding audit_from
 returns-then-not-passed c =
+    let lists : (let z = c.args in
+    c.well_formed-2.result ≡ well_formed (table_size z.r) z.grants.now z.counts.now z.tables.now z.levels.now) = rw c.table_size.ensures.0 at c.well_formed-2.ensures in
     let told : (let z = c.args in
     audit_from (captured z.front z.parts.now z.file.now) (zip z.grants.now z.counts.now) (zip z.tables.now z.levels.now) (root2 z.r)
-    ≡ audit_over (captured z.front z.parts.now z.file.now) false z.high z.r z.grants.now z.counts.now z.tables.now z.levels.now) = told_from _ _ _ _ _ _ _ c.if-high.false (sym c.of_audit-item.ensures ∙ c.if-item-ne0.false) (sym (lists c.before.before.before.before) ∙ c.if-not-well_formed.false)
+    ≡ audit_over (captured z.front z.parts.now z.file.now) false z.high z.r z.grants.now z.counts.now z.tables.now z.levels.now) = told_from _ _ _ _ _ _ _ c.if-high.false (sym c.of_audit-item.ensures ∙ c.if-item-ne0.false) (sym lists ∙ c.if-not-well_formed.false)
     (sym c.stage2_on.ensures ∙ c.if-not-stage2_on.false) in
     let z = c.args in
     let u = starts_unusable c.start2-start.result (root2 z.r) c.start2-start.ensures (sym c.passed.ensures ∙ c.if-not-passed.true) in
@@ -53,16 +53,18 @@ from_root-requires c =
     let usable : (let z = c.args in
     (root2 z.r ≡ Usable c.start2-start.result.table) × Fit c.start2-start.result) = starts_usable _ _ c.start2-start.ensures (sym c.passed.ensures ∙ c.if-not-passed.false) in
     (
-      formed _ _ _ _ _ c.table_size.ensures.1 (sym c.before.well-formed-2.ensures ∙ c.if-not-well_formed.false),
+      formed _ _ _ _ _ c.table_size.ensures.1 (sym c.before.well_formed-2.ensures ∙ c.if-not-well_formed.false),
       usable.1.small,
       c.requires c.if-high.false,
     )
 
 pub returns : goal.returns
 returns c =
+    let lists : (let z = c.args in
+    c.well_formed-2.result ≡ well_formed (table_size z.r) z.grants.now z.counts.now z.tables.now z.levels.now) = rw c.table_size.ensures.0 at c.well_formed-2.ensures in
     let told : (let z = c.args in
     audit_from (captured z.front z.parts.now z.file.now) (zip z.grants.now z.counts.now) (zip z.tables.now z.levels.now) (root2 z.r)
-    ≡ audit_over (captured z.front z.parts.now z.file.now) false z.high z.r z.grants.now z.counts.now z.tables.now z.levels.now) = told_from _ _ _ _ _ _ _ c.if-high.false (sym c.of_audit-item.ensures ∙ c.if-item-ne0.false) (sym (lists c.before.before.before.before) ∙ c.if-not-well_formed.false)
+    ≡ audit_over (captured z.front z.parts.now z.file.now) false z.high z.r z.grants.now z.counts.now z.tables.now z.levels.now) = told_from _ _ _ _ _ _ _ c.if-high.false (sym c.of_audit-item.ensures ∙ c.if-item-ne0.false) (sym lists ∙ c.if-not-well_formed.false)
     (sym c.stage2_on.ensures ∙ c.if-not-stage2_on.false) in
     let usable : (let z = c.args in
     (root2 z.r ≡ Usable c.start2-start.result.table) × Fit c.start2-start.result) = starts_usable _ _ c.start2-start.ensures (sym c.passed.ensures ∙ c.if-not-passed.false) in

@@ -10,21 +10,21 @@ use Rattle.question.proofs.Telling.{core_tells, core_refused}
 use Rattle.question.proofs.over_banks.Goals as goal
 
 pub returns-then-not-laid : goal.returns-then-not-laid
-returns-then-not-laid c = core_refused _ _ _ _ _ (sym c.lay_out-laid.ensures.readable ∙ c.if-not-laid.true)
+returns-then-not-laid c = core_refused _ _ _ _ _ (sym c.lay_out-laid.ensures.readable ∙ not-true _ c.if-not-laid.true)
 
 pub overflow_mul-end : goal.overflow_mul-end
-overflow_mul-end c = omega (arith, few c.lay_out-laid.ensures c.if-not-laid.false)
+overflow_mul-end c = omega (arith, few c.lay_out-laid.ensures (not-false _ c.if-not-laid.false))
 
 pub slice_bounds-over-end : goal.slice_bounds-over-end
 slice_bounds-over-end c =
-    let h = few c.lay_out-laid.ensures c.if-not-laid.false in
+    let h = few c.lay_out-laid.ensures (not-false _ c.if-not-laid.false) in
     let k : 3 * c.lay_out-laid.result.count ≤ 192 = omega (arith, h) in
     search rules
 
 pub over-requires : goal.over-requires
-over-requires c = held c.lay_out-laid.ensures c.if-not-laid.false
+over-requires c = held c.lay_out-laid.ensures (not-false _ c.if-not-laid.false)
 
 pub returns : goal.returns
 returns c =
     let l = c.lay_out-laid.ensures in
-    core_tells _ _ _ _ l c.if-not-laid.false c.over.ensures
+    core_tells _ _ _ _ l (not-false _ c.if-not-laid.false) c.over.ensures

@@ -7,3 +7,10 @@ use Rattle.question.proofs.translate_core.Goals as goal
 
 pub over-requires : goal.over-requires
 over-requires c = lone_held c.lone_bank-lone.ensures c.if-lone.true
+
+pub returns-then-lone : goal.returns-then-lone
+returns-then-lone c =
+    promised (lone_tells _ _ _ _ c.lone_bank-lone.ensures c.if-lone.true c.over.ensures)
+
+pub returns-else-lone : goal.returns-else-lone
+returns-else-lone c = promised c.over_banks.ensures

@@ -1,0 +1,11 @@
+-- `translate` meets its contract: a raw capture is one part, the whole of it.
+-- Assumes nothing.
+use borrow.Author.Rules.{rules}
+use mathlib.Core.Path.{◌≡◌, sym, ◌∙◌}
+use Rattle.layout.proofs.Raw.{raw_held}
+use Rattle.question.proofs.Telling.{raw_tells, promised}
+use Rattle.question.proofs.translate.Goals as goal
+
+pub returns : goal.returns
+returns c =
+    promised (raw_tells _ _ _ _ c.args.base c.args.bytes.now c.whole-whole.ensures c.ends_high-high.ensures c.over.ensures)
