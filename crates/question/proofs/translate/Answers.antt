@@ -3,9 +3,14 @@
 use borrow.Author.Rules.{rules}
 use mathlib.Core.Path.{◌≡◌, sym, ◌∙◌}
 use Rattle.layout.proofs.Raw.{raw_held}
-use Rattle.question.proofs.Telling.{raw_tells, promised}
+use Rattle.answers.proofs.Counts.{counts}
+use Rattle.answers.proofs.Framing.{framing}
+use Rattle.question.proofs.Telling.{raw_tells}
 use Rattle.question.proofs.translate.Goals as goal
 
 pub returns : goal.returns
-returns c =
-    promised (raw_tells _ _ _ _ c.args.base c.args.bytes.now c.whole-whole.ensures c.ends_high-high.ensures c.over.ensures)
+returns c = record {
+  told = raw_tells _ _ _ _ c.args.base c.args.bytes.now c.whole-whole.ensures c.ends_high-high.ensures c.over.ensures;
+  counted = counts _ _ _ _ _ _;
+  framed = λ other. framing _ _ _ _ _ _ _;
+}

@@ -2,15 +2,24 @@
 -- Assumes nothing.
 use borrow.Author.Rules.{rules}
 use Rattle.layout.proofs.Core.{lone_held}
-use Rattle.question.proofs.Telling.{lone_tells, promised}
+use Rattle.answers.proofs.Counts.{counts}
+use Rattle.answers.proofs.Framing.{framing}
+use Rattle.question.proofs.Telling.{lone_tells}
 use Rattle.question.proofs.translate_core.Goals as goal
 
 pub over-requires : goal.over-requires
 over-requires c = lone_held c.lone_bank-lone.ensures c.if-lone.true
 
 pub returns-then-lone : goal.returns-then-lone
-returns-then-lone c =
-    promised (lone_tells _ _ _ _ c.lone_bank-lone.ensures c.if-lone.true c.over.ensures)
+returns-then-lone c = record {
+  told = lone_tells _ _ _ _ c.lone_bank-lone.ensures c.if-lone.true c.over.ensures;
+  counted = counts _ _ _ _ _ _;
+  framed = λ other. framing _ _ _ _ _ _ _;
+}
 
 pub returns-else-lone : goal.returns-else-lone
-returns-else-lone c = promised c.over_banks.ensures
+returns-else-lone c = record {
+  told = c.over_banks.ensures;
+  counted = counts _ _ _ _ _ _;
+  framed = λ other. framing _ _ _ _ _ _ _;
+}
