@@ -12,18 +12,21 @@ use Rattle.batch.proofs.run.Goals as goal
 
 pub prepared1-p-requires : goal.prepared1-p-requires
 prepared1-p-requires c =
-    let runs : (let z = (begun d).args in Running (told d).before.ends-high.result (shared d) z.addresses.now z.outputs.now z.numbers.now) = running (accepted d) in
+    let z = c.args in
+    let accepted : own c.ends_high-high.result (sharing z.r z.g z.kind z.el z.size) z.addresses.now z.outputs.now z.numbers.now ≡ Accepted = sym c.verdict_of-verdict.ensures ∙ c.in-Accepted.is in
+    let runs : Running c.ends_high-high.result (sharing z.r z.g z.kind z.el z.size) z.addresses.now z.outputs.now z.numbers.now = running accepted in
     runs.registers
 
 pub each-requires : goal.each-requires
 each-requires c =
-    let runs : (let z = (begun d).args in Running (told d).before.ends-high.result (shared d) z.addresses.now z.outputs.now z.numbers.now) = running (accepted d) in
-    let v = told c.before.before.before.before.before.before.before in
-    let z = (begun c.before.before.before.before.before.before.before).args in (
+    let z = c.args in
+    let accepted : own c.ends_high-high.result (sharing z.r z.g z.kind z.el z.size) z.addresses.now z.outputs.now z.numbers.now ≡ Accepted = sym c.verdict_of-verdict.ensures ∙ c.in-Accepted.is in
+    let runs : Running c.ends_high-high.result (sharing z.r z.g z.kind z.el z.size) z.addresses.now z.outputs.now z.numbers.now = running accepted in
+    (
       c.prepared1-p.ensures.1,
       c.prepared2-q.ensures.1,
       runs.size,
-      rw v.before.before.whole.ensures (raw_held z.base z.bytes.now (sym v.before.ends-high.ensures ∙ runs.low)),
+      rw c.whole-whole.ensures (raw_held z.base z.bytes.now (sym c.ends_high-high.ensures ∙ runs.low)),
       search rules,
       runs.placed,
       runs.numbered,
@@ -31,13 +34,17 @@ each-requires c =
 
 pub returns-in-Refused : goal.returns-in-Refused
 returns-in-Refused c =
-    let refused = tells_refused _ _ _ _ _ _ (sym c.verdict_of-verdict.ensures ∙ c.in-Refused.is) in
-    (raw_tells _ _ _ _ _ _ c.whole-whole.ensures c.ends_high-high.ensures refused, promised _ _ _ _ _ _)
+    let refused = tells_refused _ _ _ _ _ _ (sym c.verdict_of-verdict.ensures ∙ c.in-Refused.is) in record {
+      told = raw_tells _ _ _ _ _ _ c.whole-whole.ensures c.ends_high-high.ensures refused;
+      promised = promised _ _ _ _ _ _;
+    }
 
 pub returns-in-Accepted : goal.returns-in-Accepted
 returns-in-Accepted c =
-    let accepted : (let z = (begun d).args in own (told d).before.ends-high.result (shared d) z.addresses.now z.outputs.now z.numbers.now ≡ Accepted) = sym (told d).verdict-of.ensures ∙ c.in-Accepted.is in
-    let runs : (let z = (begun d).args in Running (told d).before.ends-high.result (shared d) z.addresses.now z.outputs.now z.numbers.now) = running (accepted d) in
-    let v = told c.before.before.before.before.before.before.before.before.before.before.before.before.before.before.before in
-    let filled = filled_by _ (shared c.before.before.before.before.before.before.before.before.before.before.before.before.before.before.before) runs.registers (begun c.before.before.before.before.before.before.before.before.before.before.before.before.before.before.before).args.addresses.now (λ i less. omega (arith, v.before.before.before.before.before.shared-slice-known2.given i)) c.prepared1-p.ensures.0 c.prepared2-q.ensures.0 c.each.ensures c.count.ensures in
-    (raw_tells _ _ _ _ _ _ v.before.before.whole.ensures v.before.ends-high.ensures (tells_filled _ _ _ _ _ _ accepted filled), promised _ _ _ _ _ _)
+    let z = c.args in
+    let accepted : own c.ends_high-high.result (sharing z.r z.g z.kind z.el z.size) z.addresses.now z.outputs.now z.numbers.now ≡ Accepted = sym c.verdict_of-verdict.ensures ∙ c.in-Accepted.is in
+    let runs : Running c.ends_high-high.result (sharing z.r z.g z.kind z.el z.size) z.addresses.now z.outputs.now z.numbers.now = running accepted in
+    let filled = filled_by _ (sharing z.r z.g z.kind z.el z.size) runs.registers z.addresses.now (λ i less. omega (arith, c.type_inv.addresses i)) c.prepared1-p.ensures.0 c.prepared2-q.ensures.0 c.each.ensures c.count.ensures in record {
+      told = raw_tells _ _ _ _ _ _ c.whole-whole.ensures c.ends_high-high.ensures (tells_filled _ _ _ _ _ _ accepted filled);
+      promised = promised _ _ _ _ _ _;
+    }
