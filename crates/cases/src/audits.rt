@@ -2,6 +2,7 @@
 use crate::{BASE, VTCR, el2, image, print};
 use registers::El2;
 use registers::hcr::Hcr;
+use std::io;
 
 // The lists of case M.
 pub(crate) const GRANTS: [u64; 2] = [0x9_0000, 0x4000_3000];
@@ -14,6 +15,7 @@ pub(crate) const LEVELS: [u64; 2] = [2, 3];
 
 // One audit and its answer in a line.
 pub(crate) fn audit(
+    rt: &impl Print,
     name: &[u8],
     bytes: &[u8],
     base: u64,
@@ -22,30 +24,38 @@ pub(crate) fn audit(
     counts: &[u64],
     tables: &[u64],
     levels: &[u64],
-) {
-    print::text(name);
+) -> io::Result<()> {
+    print::text(rt, name)?;
     let answer = audit::audit(bytes, base, r, grants, counts, tables, levels);
-    print::audit(answer);
-    print::text(b"\n");
+    print::audit(rt, answer)?;
+    print::text(rt, b"\n")
 }
 
 // The same with the lists of case M.
-fn audit_in(name: &[u8], bytes: &[u8], base: u64, r: El2) {
-    audit(name, bytes, base, r, &GRANTS, &COUNTS, &TABLES, &LEVELS);
+fn audit_in(rt: &impl Print, name: &[u8], bytes: &[u8], base: u64, r: El2) -> io::Result<()> {
+    audit(rt, name, bytes, base, r, &GRANTS, &COUNTS, &TABLES, &LEVELS)
 }
 
 // The same with the whole capture, at a base.
-fn audit_at(name: &[u8], base: u64, r: El2) {
+fn audit_at(rt: &impl Print, name: &[u8], base: u64, r: El2) -> io::Result<()> {
     let mut bytes = [0u8; 0x8000];
     image::fill(&mut bytes);
-    audit_in(name, &bytes, base, r);
+    audit_in(rt, name, &bytes, base, r)
 }
 
 // Case M with other lists.
-fn audit_with(name: &[u8], grants: &[u64], counts: &[u64], tables: &[u64], levels: &[u64]) {
+fn audit_with(
+    rt: &impl Print,
+    name: &[u8],
+    grants: &[u64],
+    counts: &[u64],
+    tables: &[u64],
+    levels: &[u64],
+) -> io::Result<()> {
     let mut bytes = [0u8; 0x8000];
     image::fill(&mut bytes);
     audit(
+        rt,
         name,
         &bytes,
         BASE,
@@ -54,14 +64,20 @@ fn audit_with(name: &[u8], grants: &[u64], counts: &[u64], tables: &[u64], level
         counts,
         tables,
         levels,
-    );
+    )
 }
 
 // The last entry of the level 3 table is cut off.
-fn audit_cut() {
+fn audit_cut(rt: &impl Print) -> io::Result<()> {
     let mut bytes = [0u8; 0x2ff8];
     image::fill(&mut bytes);
-    audit_in(b"M, capture cut to 0x2ff8 bytes: ", &bytes, BASE, el2(VTCR));
+    audit_in(
+        rt,
+        b"M, capture cut to 0x2ff8 bytes: ",
+        &bytes,
+        BASE,
+        el2(VTCR),
+    )
 }
 
 fn stage2_off() -> El2 {
@@ -70,55 +86,60 @@ fn stage2_off() -> El2 {
     r
 }
 
-fn m() {
-    audit_at(b"M: ", BASE, el2(VTCR));
+fn m(rt: &impl Print) -> io::Result<()> {
+    audit_at(rt, b"M: ", BASE, el2(VTCR))?;
     audit_with(
+        rt,
         b"M without the first grant: ",
         &[0x4000_3000],
         &[0x3000],
         &TABLES,
         &LEVELS,
-    );
+    )
 }
 
-fn findings() {
-    audit_cut();
+fn findings(rt: &impl Print) -> io::Result<()> {
+    audit_cut(rt)?;
     audit_with(
+        rt,
         b"M, the level 3 table granted: ",
         &[0x9_0000, 0x4000_2000],
         &[0x1000, 0x4000],
         &TABLES,
         &LEVELS,
-    );
+    )?;
     audit_with(
+        rt,
         b"M, the level 3 table not listed: ",
         &GRANTS,
         &COUNTS,
         &[0x4000_1000],
         &[2],
-    );
+    )
 }
 
-fn refusals() {
+fn refusals(rt: &impl Print) -> io::Result<()> {
     audit_at(
+        rt,
         b"M, capture ending a byte past 2^48: ",
         0xffff_ffff_8001,
         el2(VTCR),
-    );
-    audit_at(b"M, T0SZ 40 in VTCR_EL2: ", BASE, el2(0x2_0068));
+    )?;
+    audit_at(rt, b"M, T0SZ 40 in VTCR_EL2: ", BASE, el2(0x2_0068))?;
     audit_with(
+        rt,
         b"M, grants descending: ",
         &[0x4000_3000, 0x9_0000],
         &[0x3000, 0x1000],
         &TABLES,
         &LEVELS,
-    );
-    audit_at(b"M, SL0 3: ", BASE, el2(0x2_00d9));
-    audit_at(b"M, stage 2 off: ", BASE, stage2_off());
+    )?;
+    audit_at(rt, b"M, SL0 3: ", BASE, el2(0x2_00d9))?;
+    audit_at(rt, b"M, stage 2 off: ", BASE, stage2_off())
 }
 
-pub(crate) fn all() {
-    m();
-    findings();
-    refusals();
+pub(crate) fn all(rt: &impl Print) -> io::Result<()> {
+    m(rt)?;
+    findings(rt)?;
+    refusals(rt)
 }

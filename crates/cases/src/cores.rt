@@ -2,6 +2,7 @@
 ghost use Rattle.std.specs.Prelude.{◌<◌};
 
 use crate::{TCR, VTCR, access, audits, el1, el2, image, print};
+use std::io;
 
 // The ELF header of a core file with so many program headers behind it.
 fn header(file: &mut [u8], machine: u64, count: u64)
@@ -61,9 +62,9 @@ fn fill_a(file: &mut [u8], machine: u64)
 }
 
 // Case A over a core file, its answer and its log in a line.
-fn ask(name: &[u8], file: &[u8]) {
+fn ask(rt: &impl Print, name: &[u8], file: &[u8]) -> io::Result<()> {
     let mut log = [0u64; 24];
-    print::text(name);
+    print::text(rt, name)?;
     let answer = question::translate_core(
         file,
         el2(VTCR),
@@ -71,40 +72,40 @@ fn ask(name: &[u8], file: &[u8]) {
         access(0x1008, 0, 0),
         &mut log,
     );
-    print::answer(answer);
-    print::log(&log);
-    print::text(b"\n");
+    print::answer(rt, answer)?;
+    print::log(rt, &log)?;
+    print::text(rt, b"\n")
 }
 
-fn a() {
+fn a(rt: &impl Print) -> io::Result<()> {
     let mut file = [0u8; 592];
     fill_a(&mut file, 183);
-    ask(b"A in a core file of eight banks: ", &file);
+    ask(rt, b"A in a core file of eight banks: ", &file)?;
     bank(&mut file, 456, 0x4000_5008, 583, 8);
-    ask(b"the same, two banks with a byte in common: ", &file);
+    ask(rt, b"the same, two banks with a byte in common: ", &file)
 }
 
 // The last bank's last byte is past the end.
-fn a_cut() {
+fn a_cut(rt: &impl Print) -> io::Result<()> {
     let mut file = [0u8; 591];
     fill_a(&mut file, 183);
-    ask(b"the same, cut by a byte: ", &file);
+    ask(rt, b"the same, cut by a byte: ", &file)
 }
 
-fn a_refused() {
+fn a_refused(rt: &impl Print) -> io::Result<()> {
     let mut file = [0u8; 592];
     fill_a(&mut file, 62);
-    ask(b"the same, machine 62: ", &file);
+    ask(rt, b"the same, machine 62: ", &file)
 }
 
 // Of the two addresses the second needs a descriptor that lies in no bank.
-fn batch() {
+fn batch(rt: &impl Print) -> io::Result<()> {
     let mut file = [0u8; 592];
     fill_a(&mut file, 183);
     let addresses = [0x1008u64, 0x2000];
     let mut outputs = [0u64; 2];
     let mut numbers = [0u64; 2];
-    print::text(b"batch of 0x1008 and 0x2000 in the core file: ");
+    print::text(rt, b"batch of 0x1008 and 0x2000 in the core file: ")?;
     let answer = batch::run_core(
         &file,
         el2(VTCR),
@@ -116,13 +117,13 @@ fn batch() {
         &mut outputs,
         &mut numbers,
     );
-    print::batch(answer);
-    print::text(b"\n");
+    print::batch(rt, answer)?;
+    print::text(rt, b"\n")
 }
 
 // Case M over a core file, with the lists of case M.
-fn audit(name: &[u8], file: &[u8]) {
-    print::text(name);
+fn audit(rt: &impl Print, name: &[u8], file: &[u8]) -> io::Result<()> {
+    print::text(rt, name)?;
     let answer = audit::audit_core(
         file,
         el2(VTCR),
@@ -131,12 +132,12 @@ fn audit(name: &[u8], file: &[u8]) {
         &audits::TABLES,
         &audits::LEVELS,
     );
-    print::audit(answer);
-    print::text(b"\n");
+    print::audit(rt, answer)?;
+    print::text(rt, b"\n")
 }
 
 // The three tables of stage 2, a bank each; behind each other in the file.
-fn m() {
+fn m(rt: &impl Print) -> io::Result<()> {
     let mut file = [0u8; 12520];
     header(&mut file, 183, 3);
     bank(&mut file, 64, 0x4000_0000, 232, 0x1000);
@@ -148,18 +149,19 @@ fn m() {
     image::put(&mut file, 8440, 0x4000_47ff);
     image::put(&mut file, 8448, 0x4000_57ff);
     image::put(&mut file, 9064, 0x9_07ff);
-    audit(b"M in a core file of three banks: ", &file);
+    audit(rt, b"M in a core file of three banks: ", &file)?;
     bank(&mut file, 176, 0x4000_2008, 8432, 0xff8);
     audit(
+        rt,
         b"the same, the level 3 table without its first entry: ",
         &file,
-    );
+    )
 }
 
-pub(crate) fn all() {
-    a();
-    a_cut();
-    a_refused();
-    batch();
-    m();
+pub(crate) fn all(rt: &impl Print) -> io::Result<()> {
+    a(rt)?;
+    a_cut(rt)?;
+    a_refused(rt)?;
+    batch(rt)?;
+    m(rt)
 }

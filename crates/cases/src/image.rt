@@ -1,17 +1,8 @@
 // The capture that the cases start from.
 // Writes a word, least significant byte first, as far as it fits.
 pub(crate) fn put(bytes: &mut [u8], at: usize, word: u64) {
-    let mut rest = word;
-    let mut i = at;
-    let mut left: usize = 8;
-    while 0 < left {
-        left -= 1;
-        if bytes.len() <= i {
-            return;
-        }
-        bytes[i] = (rest % 256) as u8;
-        rest /= 256;
-        i += 1;
+    for (byte, new) in bytes.iter_mut().skip(at).zip(word.to_le_bytes()) {
+        *byte = new;
     }
 }
 

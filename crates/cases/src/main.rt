@@ -7,6 +7,7 @@ use registers::sctlr::Sctlr;
 use registers::tcr::Tcr;
 use registers::vtcr::Vtcr;
 use registers::{El1, El2};
+use std::io;
 
 mod audits;
 mod cores;
@@ -52,67 +53,93 @@ fn access(address: u64, kind: u64, el: u64) -> Access {
 }
 
 // One question, its answer and its log in a line.
-fn ask(name: &[u8], bytes: &[u8], base: u64, r: El2, g: El1, a: Access) {
+fn ask(
+    rt: &impl Print,
+    name: &[u8],
+    bytes: &[u8],
+    base: u64,
+    r: El2,
+    g: El1,
+    a: Access,
+) -> io::Result<()> {
     let mut log = [0u64; 24];
-    print::text(name);
+    print::text(rt, name)?;
     let answer = question::translate(bytes, base, r, g, a, &mut log);
-    print::answer(answer);
-    print::log(&log);
-    print::text(b"\n");
+    print::answer(rt, answer)?;
+    print::log(rt, &log)?;
+    print::text(rt, b"\n")
 }
 
 // The same with one word of the capture written over.
-fn ask_with(name: &[u8], at: usize, word: u64, r: El2, g: El1, a: Access) {
+fn ask_with(
+    rt: &impl Print,
+    name: &[u8],
+    at: usize,
+    word: u64,
+    r: El2,
+    g: El1,
+    a: Access,
+) -> io::Result<()> {
     let mut bytes = [0u8; 0x8000];
     image::fill(&mut bytes);
     image::put(&mut bytes, at, word);
-    ask(name, &bytes, BASE, r, g, a);
+    ask(rt, name, &bytes, BASE, r, g, a)
 }
 
 // The same with the capture as it is, or cut short.
-fn ask_first(name: &[u8], length: usize, r: El2, g: El1, a: Access) {
+fn ask_first(
+    rt: &impl Print,
+    name: &[u8],
+    length: usize,
+    r: El2,
+    g: El1,
+    a: Access,
+) -> io::Result<()> {
     let mut bytes = [0u8; 0x8000];
     image::fill(&mut bytes);
     if length <= 0x8000 {
-        ask(name, &bytes[..length], BASE, r, g, a);
+        ask(rt, name, &bytes[..length], BASE, r, g, a)?;
     }
+    Ok(())
 }
 
 // A write through stage 1 tables that stage 2 makes read-only.
-fn ask_read_only() {
+fn ask_read_only(rt: &impl Print) -> io::Result<()> {
     let mut bytes = [0u8; 0x8000];
     image::fill(&mut bytes);
     image::put(&mut bytes, 0x2008, 0x4000_377f);
     image::put(&mut bytes, 0x2010, 0x4000_477f);
     image::put(&mut bytes, 0x2018, 0x4000_577f);
     ask(
+        rt,
         b"A as a write, stage 1 tables read-only at stage 2: ",
         &bytes,
         BASE,
         el2(VTCR),
         el1(5, TCR),
         access(0x1008, 1, 0),
-    );
+    )
 }
 
 // A root of 1,024 entries, of which entry 513 is a block; a 9-bit index would find entry 1, which is zero.
-fn ask_concatenated() {
+fn ask_concatenated(rt: &impl Print) -> io::Result<()> {
     let mut bytes = [0u8; 0x8000];
     image::put(&mut bytes, 0x1008, 0x8000_07fd);
     ask(
+        rt,
         b"concatenated root, entry 513: ",
         &bytes,
         BASE,
         el2(0x2_0058),
         el1(0, 0),
         access(0x80_4000_0008, 0, 0),
-    );
+    )
 }
 
 // Case A with eight bytes captured at a base, and a log of some length.
-fn ask_small(name: &[u8], base: u64, log: &mut [u64]) {
+fn ask_small(rt: &impl Print, name: &[u8], base: u64, log: &mut [u64]) -> io::Result<()> {
     let bytes = [0u8; 8];
-    print::text(name);
+    print::text(rt, name)?;
     let answer = question::translate(
         &bytes,
         base,
@@ -121,28 +148,35 @@ fn ask_small(name: &[u8], base: u64, log: &mut [u64]) {
         access(0x1008, 0, 0),
         log,
     );
-    print::answer(answer);
-    print::text(b"\n");
+    print::answer(rt, answer)?;
+    print::text(rt, b"\n")
 }
 
-fn ask_short() {
+fn ask_short(rt: &impl Print) -> io::Result<()> {
     let mut log = [7u64; 23];
-    ask_small(b"log of 23 words: ", BASE, &mut log);
+    ask_small(rt, b"log of 23 words: ", BASE, &mut log)
 }
 
-fn ask_high() {
+fn ask_high(rt: &impl Print) -> io::Result<()> {
     let mut log = [7u64; 24];
     ask_small(
+        rt,
         b"capture ending a byte past 2^48: ",
         0xffff_ffff_fff9,
         &mut log,
-    );
+    )
 }
 
 // A batch of two addresses and its ledger in a line.
-fn batch(name: &[u8], bytes: &[u8], outputs: &mut [u64], numbers: &mut [u64]) {
+fn batch(
+    rt: &impl Print,
+    name: &[u8],
+    bytes: &[u8],
+    outputs: &mut [u64],
+    numbers: &mut [u64],
+) -> io::Result<()> {
     let addresses = [0x1008u64, 0x2000];
-    print::text(name);
+    print::text(rt, name)?;
     let answer = batch::run(
         bytes,
         BASE,
@@ -155,90 +189,108 @@ fn batch(name: &[u8], bytes: &[u8], outputs: &mut [u64], numbers: &mut [u64]) {
         outputs,
         numbers,
     );
-    print::batch(answer);
-    print::text(b"\n");
+    print::batch(rt, answer)?;
+    print::text(rt, b"\n")
 }
 
 // The same with the capture as it is, or cut short.
-fn batch_first(name: &[u8], length: usize) {
+fn batch_first(rt: &impl Print, name: &[u8], length: usize) -> io::Result<()> {
     let mut bytes = [0u8; 0x8000];
     image::fill(&mut bytes);
     let mut outputs = [0u64; 2];
     let mut numbers = [0u64; 2];
     if length <= 0x8000 {
-        batch(name, &bytes[..length], &mut outputs, &mut numbers);
+        batch(rt, name, &bytes[..length], &mut outputs, &mut numbers)?;
     }
+    Ok(())
 }
 
 // Refused before the capture is looked at: two addresses, one output.
-fn batch_short() {
+fn batch_short(rt: &impl Print) -> io::Result<()> {
     let bytes = [0u8; 8];
     let mut outputs = [0u64; 1];
     let mut numbers = [0u64; 2];
     batch(
+        rt,
         b"batch of 0x1008 and 0x2000, a list of one output: ",
         &bytes,
         &mut outputs,
         &mut numbers,
-    );
+    )
 }
 
-fn a_to_f() {
+fn a_to_f(rt: &impl Print) -> io::Result<()> {
     let r = el2(VTCR);
     let g = el1(5, TCR);
-    ask_first(b"A: ", 0x8000, r, g, access(0x1008, 0, 0));
-    ask_with(b"B: ", 0x2280, 0x9077f, r, g, access(0x1008, 1, 0));
-    ask_with(b"C: ", 0x2010, 0, r, g, access(0x1008, 0, 0));
-    ask_with(b"D: ", 0x5008, 0x50343, r, g, access(0x1008, 0, 0));
-    ask_first(b"E: ", 0x4000, r, g, access(0x1008, 0, 0));
-    ask_first(b"F: ", 0x8000, r, g, access(0x80_0000_0000, 0, 0));
+    ask_first(rt, b"A: ", 0x8000, r, g, access(0x1008, 0, 0))?;
+    ask_with(rt, b"B: ", 0x2280, 0x9077f, r, g, access(0x1008, 1, 0))?;
+    ask_with(rt, b"C: ", 0x2010, 0, r, g, access(0x1008, 0, 0))?;
+    ask_with(rt, b"D: ", 0x5008, 0x50343, r, g, access(0x1008, 0, 0))?;
+    ask_first(rt, b"E: ", 0x4000, r, g, access(0x1008, 0, 0))?;
+    ask_first(rt, b"F: ", 0x8000, r, g, access(0x80_0000_0000, 0, 0))
 }
 
-fn g_to_l() {
+fn g_to_l(rt: &impl Print) -> io::Result<()> {
     let r = el2(VTCR);
     let g = el1(5, TCR);
-    ask_first(b"G: ", 0x8000, r, g, access(0x7f_ffff_ffff, 0, 0));
-    ask_first(b"H: ", 0x8000, r, g, access(0x1008, 2, 1));
-    ask_first(b"I: ", 0x8000, el2(0x2_00d9), g, access(0x1008, 0, 0));
-    ask_first(b"J: ", 0x8000, r, el1(0, TCR), access(0x5_0008, 0, 0));
-    ask_first(b"K: ", 0x8000, r, el1(0, TCR), access(0x5_0009, 0, 0));
+    ask_first(rt, b"G: ", 0x8000, r, g, access(0x7f_ffff_ffff, 0, 0))?;
+    ask_first(rt, b"H: ", 0x8000, r, g, access(0x1008, 2, 1))?;
+    ask_first(rt, b"I: ", 0x8000, el2(0x2_00d9), g, access(0x1008, 0, 0))?;
+    ask_first(rt, b"J: ", 0x8000, r, el1(0, TCR), access(0x5_0008, 0, 0))?;
+    ask_first(rt, b"K: ", 0x8000, r, el1(0, TCR), access(0x5_0009, 0, 0))?;
     ask_first(
+        rt,
         b"L: ",
         0x8000,
         r,
         el1(5, 0x2_0080_0028),
         access(0x1008, 0, 0),
-    );
+    )
 }
 
-fn beyond() {
+fn beyond(rt: &impl Print) -> io::Result<()> {
     let r = el2(VTCR);
     let g = el1(5, TCR);
     ask_first(
+        rt,
         b"L, T0SZ 39: ",
         0x8000,
         r,
         el1(5, 0x2_0080_0027),
         access(0x1008, 0, 0),
-    );
-    ask_first(b"A, the next word: ", 0x8000, r, g, access(0x1010, 0, 0));
-    ask_first(b"A in an empty capture: ", 0, r, g, access(0x1008, 0, 0));
-    ask_first(b"A, kind 3: ", 0x8000, r, g, access(0x1008, 3, 0));
-    ask_read_only();
-    ask_concatenated();
-    ask_short();
-    ask_high();
-    batch_first(b"batch of 0x1008 and 0x2000: ", 0x8000);
-    batch_first(b"the same, capture cut to 0x4000 bytes: ", 0x4000);
-    batch_short();
+    )?;
+    ask_first(
+        rt,
+        b"A, the next word: ",
+        0x8000,
+        r,
+        g,
+        access(0x1010, 0, 0),
+    )?;
+    ask_first(
+        rt,
+        b"A in an empty capture: ",
+        0,
+        r,
+        g,
+        access(0x1008, 0, 0),
+    )?;
+    ask_first(rt, b"A, kind 3: ", 0x8000, r, g, access(0x1008, 3, 0))?;
+    ask_read_only(rt)?;
+    ask_concatenated(rt)?;
+    ask_short(rt)?;
+    ask_high(rt)?;
+    batch_first(rt, b"batch of 0x1008 and 0x2000: ", 0x8000)?;
+    batch_first(rt, b"the same, capture cut to 0x4000 bytes: ", 0x4000)?;
+    batch_short(rt)
 }
 
-fn main() {
-    a_to_f();
-    g_to_l();
-    beyond();
-    audits::all();
-    cores::all();
-    sizes::all();
-    granules::all();
+fn main(rt: HostRuntime) -> io::Result<()> {
+    a_to_f(&rt)?;
+    g_to_l(&rt)?;
+    beyond(&rt)?;
+    audits::all(&rt)?;
+    cores::all(&rt)?;
+    sizes::all(&rt)?;
+    granules::all(&rt)
 }

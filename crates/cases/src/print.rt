@@ -6,223 +6,223 @@ use batch::BatchAnswer;
 use descriptor::entry::FaultKind;
 use ledger::line::LineAnswer;
 use ledger::{Ledger, line};
-use libc::STDOUT_FILENO;
 use stages::both::Translation;
+use std::io;
 use walk::stop::{Fault, Missing, Open, Stage};
 
-pub(crate) fn text(t: &[u8]) {
-    io::write_all(STDOUT_FILENO, t);
+pub(crate) fn text(rt: &impl Print, t: &[u8]) -> io::Result<()> {
+    rt.write_all(t)
 }
 
-fn number(before: &[u8], n: u64) {
-    text(before);
-    io::print_decimal(STDOUT_FILENO, n);
+fn number(rt: &impl Print, before: &[u8], n: u64) -> io::Result<()> {
+    text(rt, before)?;
+    rt.print(n)
 }
 
-fn place(before: &[u8], n: u64) {
-    text(before);
-    text(b"0x");
-    io::print_hex(STDOUT_FILENO, n, 1);
+fn place(rt: &impl Print, before: &[u8], n: u64) -> io::Result<()> {
+    text(rt, before)?;
+    print!(rt; "{n:#x}")
 }
 
-fn cacheability(c: Cacheability) {
+fn cacheability(rt: &impl Print, c: Cacheability) -> io::Result<()> {
     match c {
-        Cacheability::NonCacheable => text(b" NC"),
-        Cacheability::WriteThrough => text(b" WT"),
-        Cacheability::WriteBack => text(b" WB"),
+        Cacheability::NonCacheable => text(rt, b" NC"),
+        Cacheability::WriteThrough => text(rt, b" WT"),
+        Cacheability::WriteBack => text(rt, b" WB"),
     }
 }
 
-fn device_type(d: DeviceType) {
+fn device_type(rt: &impl Print, d: DeviceType) -> io::Result<()> {
     match d {
-        DeviceType::NGnRnE => text(b" Device nGnRnE"),
-        DeviceType::NGnRE => text(b" Device nGnRE"),
-        DeviceType::NGRE => text(b" Device nGRE"),
-        DeviceType::GRE => text(b" Device GRE"),
+        DeviceType::NGnRnE => text(rt, b" Device nGnRnE"),
+        DeviceType::NGnRE => text(rt, b" Device nGnRE"),
+        DeviceType::NGRE => text(rt, b" Device nGRE"),
+        DeviceType::GRE => text(rt, b" Device GRE"),
     }
 }
 
-fn memory_type(m: MemoryType) {
+fn memory_type(rt: &impl Print, m: MemoryType) -> io::Result<()> {
     match m {
-        MemoryType::Device(d) => device_type(d),
+        MemoryType::Device(d) => device_type(rt, d),
         MemoryType::Normal { outer, inner } => {
-            text(b" Normal outer");
-            cacheability(outer);
-            text(b" inner");
-            cacheability(inner);
+            text(rt, b" Normal outer")?;
+            cacheability(rt, outer)?;
+            text(rt, b" inner")?;
+            cacheability(rt, inner)
         }
     }
 }
 
-fn shareability(s: Shareability) {
+fn shareability(rt: &impl Print, s: Shareability) -> io::Result<()> {
     match s {
-        Shareability::NonShareable => text(b", not shareable"),
-        Shareability::OuterShareable => text(b", outer shareable"),
-        Shareability::InnerShareable => text(b", inner shareable"),
+        Shareability::NonShareable => text(rt, b", not shareable"),
+        Shareability::OuterShareable => text(rt, b", outer shareable"),
+        Shareability::InnerShareable => text(rt, b", inner shareable"),
     }
 }
 
-fn attributes(a: Attributes) {
+fn attributes(rt: &impl Print, a: Attributes) -> io::Result<()> {
     let m = a.memory;
     let s = a.shareability;
-    memory_type(m);
-    shareability(s);
+    memory_type(rt, m)?;
+    shareability(rt, s)
 }
 
-fn stage_of(s: Stage) {
+fn stage_of(rt: &impl Print, s: Stage) -> io::Result<()> {
     match s {
-        Stage::One => text(b", stage 1"),
+        Stage::One => text(rt, b", stage 1"),
         Stage::Two { ipa, onwalk } => {
-            text(b", stage 2");
+            text(rt, b", stage 2")?;
             if onwalk {
-                text(b" on-walk");
+                text(rt, b" on-walk")?;
             }
-            place(b", IPA ", ipa);
+            place(rt, b", IPA ", ipa)
         }
     }
 }
 
-fn kind(k: FaultKind) {
+fn kind(rt: &impl Print, k: FaultKind) -> io::Result<()> {
     match k {
-        FaultKind::Translation => text(b"translation fault"),
-        FaultKind::AddressSize => text(b"address size fault"),
-        FaultKind::AccessFlag => text(b"access flag fault"),
-        FaultKind::Permission => text(b"permission fault"),
+        FaultKind::Translation => text(rt, b"translation fault"),
+        FaultKind::AddressSize => text(rt, b"address size fault"),
+        FaultKind::AccessFlag => text(rt, b"access flag fault"),
+        FaultKind::Permission => text(rt, b"permission fault"),
     }
 }
 
-fn translation(t: Translation) {
+fn translation(rt: &impl Print, t: Translation) -> io::Result<()> {
     let a = t.attributes;
-    place(b"translated to ", t.address);
-    text(b",");
-    attributes(a);
-    number(b", levels ", t.level1);
-    number(b" and ", t.level2);
+    place(rt, b"translated to ", t.address)?;
+    text(rt, b",")?;
+    attributes(rt, a)?;
+    number(rt, b", levels ", t.level1)?;
+    number(rt, b" and ", t.level2)
 }
 
-fn fault_of(f: Fault) {
+fn fault_of(rt: &impl Print, f: Fault) -> io::Result<()> {
     let k = f.kind;
     let s = f.stage;
-    kind(k);
-    stage_of(s);
-    number(b", level ", f.level);
+    kind(rt, k)?;
+    stage_of(rt, s)?;
+    number(rt, b", level ", f.level)
 }
 
-fn absent(m: Missing) {
+fn absent(rt: &impl Print, m: Missing) -> io::Result<()> {
     let s = m.stage;
-    place(b"not in the capture: ", m.address);
-    stage_of(s);
-    number(b", level ", m.level);
+    place(rt, b"not in the capture: ", m.address)?;
+    stage_of(rt, s)?;
+    number(rt, b", level ", m.level)
 }
 
-fn unsettled(o: Open) {
+fn unsettled(rt: &impl Print, o: Open) -> io::Result<()> {
     let s = o.stage;
-    text(b"unsettled by Arm");
-    stage_of(s);
-    number(b", level ", o.level);
+    text(rt, b"unsettled by Arm")?;
+    stage_of(rt, s)?;
+    number(rt, b", level ", o.level)
 }
 
-fn refused(r: Refusal) {
+fn refused(rt: &impl Print, r: Refusal) -> io::Result<()> {
     match r {
-        Refusal::ShortLog => text(b"refused 10, log under 24 words"),
-        Refusal::HighCapture => text(b"refused 11, capture past 2^48"),
-        Refusal::Settings { item } => number(b"refused 12, settings item ", item),
-        Refusal::Unlisted => text(b"refused 13, kind, EL or size"),
-        Refusal::BatchLists => text(b"refused 14, batch lists"),
-        Refusal::AuditLists => text(b"refused 15, audit lists"),
-        Refusal::NoRoot => text(b"refused 16, no usable stage 2 root"),
-        Refusal::CoreFile => text(b"refused 17, core file"),
+        Refusal::ShortLog => text(rt, b"refused 10, log under 24 words"),
+        Refusal::HighCapture => text(rt, b"refused 11, capture past 2^48"),
+        Refusal::Settings { item } => number(rt, b"refused 12, settings item ", item),
+        Refusal::Unlisted => text(rt, b"refused 13, kind, EL or size"),
+        Refusal::BatchLists => text(rt, b"refused 14, batch lists"),
+        Refusal::AuditLists => text(rt, b"refused 15, audit lists"),
+        Refusal::NoRoot => text(rt, b"refused 16, no usable stage 2 root"),
+        Refusal::CoreFile => text(rt, b"refused 17, core file"),
     }
 }
 
-fn reads(n: u64) {
-    number(b", reads ", n);
+fn reads(rt: &impl Print, n: u64) -> io::Result<()> {
+    number(rt, b", reads ", n)
 }
 
-pub(crate) fn answer(a: Answer) {
+pub(crate) fn answer(rt: &impl Print, a: Answer) -> io::Result<()> {
     match a {
         Answer::Translated { to, reads: n } => {
-            translation(to);
-            reads(n);
+            translation(rt, to)?;
+            reads(rt, n)
         }
         Answer::Fault { fault, reads: n } => {
-            fault_of(fault);
-            reads(n);
+            fault_of(rt, fault)?;
+            reads(rt, n)
         }
         Answer::Misaligned { stage, reads: n } => {
-            text(b"alignment fault");
-            stage_of(stage);
-            reads(n);
+            text(rt, b"alignment fault")?;
+            stage_of(rt, stage)?;
+            reads(rt, n)
         }
         Answer::Absent { missing, reads: n } => {
-            absent(missing);
-            reads(n);
+            absent(rt, missing)?;
+            reads(rt, n)
         }
         Answer::Unsettled { open, reads: n } => {
-            unsettled(open);
-            reads(n);
+            unsettled(rt, open)?;
+            reads(rt, n)
         }
-        Answer::Refused(r) => refused(r),
+        Answer::Refused(r) => refused(rt, r),
     }
 }
 
-fn address(n: u64) {
-    place(b" ", n);
+fn address(rt: &impl Print, n: u64) -> io::Result<()> {
+    place(rt, b" ", n)
 }
 
 // The addresses read, up to the first word that a question left as it was, zero.
-pub(crate) fn log(words: &[u64]) {
-    text(b" |");
-    let mut i = 0;
-    while i < words.len() {
-        if words[i] == 0 {
-            return;
+pub(crate) fn log(rt: &impl Print, words: &[u64]) -> io::Result<()> {
+    text(rt, b" |")?;
+    for &word in words {
+        if word == 0 {
+            break;
         }
-        address(words[i]);
-        i += 1;
+        address(rt, word)?;
     }
+    Ok(())
 }
 
-fn ledger_line(l: Ledger) {
+fn ledger_line(rt: &impl Print, l: Ledger) -> io::Result<()> {
     let mut buffer = [0u8; 160];
     match line::write_line(l, &mut buffer) {
         LineAnswer::Written(n) => {
             if n <= 160 {
-                text(&buffer[..n]);
+                text(rt, &buffer[..n])?;
             }
+            Ok(())
         }
-        LineAnswer::Short => text(b"no room for the line"),
+        LineAnswer::Short => text(rt, b"no room for the line"),
     }
 }
 
-pub(crate) fn batch(a: BatchAnswer) {
+pub(crate) fn batch(rt: &impl Print, a: BatchAnswer) -> io::Result<()> {
     match a {
-        BatchAnswer::Done(l) => ledger_line(l),
-        BatchAnswer::Refused(r) => refused(r),
+        BatchAnswer::Done(l) => ledger_line(rt, l),
+        BatchAnswer::Refused(r) => refused(rt, r),
     }
 }
 
-fn finding_kind(k: FindingKind) {
+fn finding_kind(rt: &impl Print, k: FindingKind) -> io::Result<()> {
     match k {
-        FindingKind::NotCaptured => text(b"finding 1, table not whole in the capture"),
-        FindingKind::TouchesGrant => text(b"finding 2, table touches a grant"),
+        FindingKind::NotCaptured => text(rt, b"finding 1, table not whole in the capture"),
+        FindingKind::TouchesGrant => text(rt, b"finding 2, table touches a grant"),
         FindingKind::UnlistedTable => text(
+            rt,
             b"finding 3, next table not listed one level lower down",
         ),
-        FindingKind::OutsideGrants => text(b"finding 4, leaf's range not inside one grant"),
+        FindingKind::OutsideGrants => text(rt, b"finding 4, leaf's range not inside one grant"),
     }
 }
 
-fn finding(f: Finding) {
+fn finding(rt: &impl Print, f: Finding) -> io::Result<()> {
     let k = f.kind;
-    finding_kind(k);
-    place(b": ", f.address);
+    finding_kind(rt, k)?;
+    place(rt, b": ", f.address)
 }
 
-pub(crate) fn audit(a: AuditAnswer) {
+pub(crate) fn audit(rt: &impl Print, a: AuditAnswer) -> io::Result<()> {
     match a {
-        AuditAnswer::Clean => text(b"clean"),
-        AuditAnswer::Found(f) => finding(f),
-        AuditAnswer::Refused(r) => refused(r),
+        AuditAnswer::Clean => text(rt, b"clean"),
+        AuditAnswer::Found(f) => finding(rt, f),
+        AuditAnswer::Refused(r) => refused(rt, r),
     }
 }
