@@ -9,7 +9,6 @@ use Rattle.settings.specs.Settings.{settings}
 use Rattle.answers.specs.declared.Refusal.{Refusal}
 use Rattle.answers.specs.declared.Refusal.TheVariants.{ShortLog, HighCapture, Settings, Unlisted, CoreFile}
 use Rattle.answers.specs.declared.Verdict.{Verdict}
-use Rattle.answers.specs.declared.Verdict.TheVariants as Verdict
 
 -- a test that refuses where it holds
 pub record Ground : Type 0 where

@@ -5,9 +5,8 @@ use mathlib.Core.Bool.{Bool, true, false}
 use mathlib.Core.List.{List}
 use Prim.Native.Nat.{ℕ, ◌-◌, ◌*◌, ◌%◌, ◌^◌}
 use native.Mathlib.Omega.{arith}
-use lib.ListN.{length}
 use borrow.Author.Tests.{not-false}
-use Rattle.reads.specs.Program.{Request, Outcome, reached, stopped, run, reads, nil}
+use Rattle.reads.specs.Program.{Request, Outcome, reached, stopped, run, nil}
 use Rattle.access.specs.declared.Access.{Access}
 use Rattle.reads.specs.declared.Read.{Read}
 use Rattle.reads.proofs.Holds.{OnOutcome, Holds, holds_reads, holds_run}
@@ -30,7 +29,6 @@ use Rattle.registers.specs.declared.El2.{El2}
 use Rattle.regime.proofs.Roots.{Sane, root2_sane, root1_aligned}
 use Rattle.answers.specs.Refusals.{Ground, refuse, verdict}
 use Rattle.answers.specs.declared.Verdict.{Verdict}
-use Rattle.answers.specs.declared.Verdict.TheVariants as Verdict
 use Rattle.answers.specs.Question.{turned_away, told, ask_over, ask}
 use Rattle.bits.specs.Bits.{pick}
 use Rattle.answers.proofs.Refusals.{refuse_refused, refuse_accepted, by_refuse, holds_for, is_high, is_no_root, none_holds}

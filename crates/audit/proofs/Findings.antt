@@ -15,7 +15,6 @@ use Rattle.reads.specs.declared.Read.{Read}
 use Rattle.reads.specs.declared.Read.TheVariants.{Word}
 use Rattle.descriptor.specs.declared.entry.Geometry.{Geometry}
 use Rattle.descriptor.specs.declared.entry.DescriptorType.{DescriptorType}
-use Rattle.descriptor.specs.declared.entry.DescriptorType.TheVariants as DescriptorType
 use Rattle.bits.proofs.Tests.{and_left, and_right}
 use Rattle.walk.specs.declared.table.Table.{Table}
 use Rattle.walk.proofs.Walks.{Says}

@@ -1,6 +1,6 @@
 -- The audit of stage 2's tables against the granted frames (01, The audit).
 -- Assumes nothing.
-use Rattle.std.specs.Prelude.{Bool, not, List, [], ◌∷◌, ℕ, zero, suc, ◌+◌, ◌-◌, ◌*◌, ◌^◌, length}
+use Rattle.std.specs.Prelude.{Bool, not, List, [], ◌∷◌, ℕ, zero, suc, ◌+◌, ◌-◌, ◌*◌, ◌^◌}
 use Rattle.bits.specs.Bits.{pick, upper}
 use Rattle.reads.specs.Program.{Request, stage_2}
 use Rattle.descriptor.specs.Entry.{shift, descriptor_type}
@@ -8,13 +8,11 @@ use Rattle.reads.specs.declared.Read.{Read}
 use Rattle.reads.specs.declared.Read.TheVariants.{Absent, Word}
 use Rattle.descriptor.specs.declared.entry.Geometry.{Geometry}
 use Rattle.descriptor.specs.declared.entry.DescriptorType.{DescriptorType}
-use Rattle.descriptor.specs.declared.entry.DescriptorType.TheVariants as DescriptorType
 use Rattle.capture.specs.Capture.{any_high}
 use Rattle.layout.specs.Layout.{Form, layout, captured}
 use Rattle.answers.specs.declared.Refusal.TheVariants.{AuditLists, NoRoot}
 use Rattle.walk.specs.declared.table.Root.{Root}
 use Rattle.walk.specs.declared.table.Root.TheVariants.{Unusable, Usable}
-use Rattle.walk.specs.declared.table.Table.{Table}
 use Rattle.settings.specs.Settings.{stage2_on, audit_settings}
 use Rattle.regime.specs.Roots.{table_size, root2}
 use Rattle.registers.specs.declared.El2.{El2}

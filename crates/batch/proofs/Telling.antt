@@ -22,11 +22,10 @@ use Rattle.layout.specs.declared.Laid.{Laid}
 use Rattle.layout.proofs.Raw as Raw
 use Rattle.layout.proofs.Raw.{raw_captured, raw_high}
 use Rattle.layout.proofs.Core.{lent, laid_captured, laid_high, laid_readable}
-use Rattle.answers.specs.Refusals.{refuse, verdict, shared}
+use Rattle.answers.specs.Refusals.{refuse, verdict}
 use Rattle.answers.specs.declared.Refusal.{Refusal}
 use Rattle.answers.specs.declared.Refusal.TheVariants.{BatchLists, CoreFile}
 use Rattle.answers.specs.declared.Verdict.{Verdict}
-use Rattle.answers.specs.declared.Verdict.TheVariants as Verdict
 use Rattle.answers.proofs.Refusals.{refuse_refused, refuse_accepted, accepted_settings, accepted_capture, accepted_size}
 use Rattle.settings.specs.Settings.{settings}
 use Rattle.walk.specs.declared.stage2.Stage2.{Stage2}

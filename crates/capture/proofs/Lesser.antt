@@ -1,7 +1,6 @@
 -- The lesser of two numbers, and what a file has of a bank.
 -- Assumes nothing.
-use Rattle.std.proofs.Common.{◌≡◌, ℕ, ◌+◌, ◌-◌, ◌<◌, ◌≤◌, Bool, true, false, leb, sym, refl, ap, ◌∙◌, ap₂, arith, le-leb, leb-false, leb-true}
-use borrow.Author.Tests.{lt-leb}
+use Rattle.std.proofs.Common.{◌≡◌, ℕ, ◌+◌, ◌-◌, ◌<◌, ◌≤◌, Bool, true, false, leb, refl, arith, le-leb, leb-false, leb-true}
 use Rattle.bits.specs.Bits.{pick}
 use Rattle.capture.specs.Capture.{Bank, least, part, kept}
 

@@ -1,7 +1,7 @@
 -- A capture as a memory of descriptors: a file's bytes, of which banks stand at physical addresses (02, §1).
 -- A raw capture is one bank that is the whole file.
 -- Assumes nothing.
-use Rattle.std.specs.Prelude.{◌≡◌, ℕ, ◌+◌, ◌-◌, ◌*◌, ◌^◌, ◌<◌, ◌≤◌, Bool, false, ◌&&◌, ◌||◌, List, [], ◌∷◌, map, length, take, drop, nat_le, nat_lt, slice_index}
+use Rattle.std.specs.Prelude.{◌≡◌, ℕ, ◌+◌, ◌-◌, ◌*◌, ◌^◌, ◌<◌, ◌≤◌, Bool, false, ◌&&◌, ◌||◌, List, [], ◌∷◌, length, take, drop, nat_le, nat_lt, slice_index}
 use Rattle.bits.specs.Bits.{pick}
 use Rattle.reads.specs.Program.{Request, All}
 use Rattle.reads.specs.declared.Read.{Read}

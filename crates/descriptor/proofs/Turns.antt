@@ -14,9 +14,7 @@ use Rattle.descriptor.specs.declared.entry.DescriptorType.{DescriptorType}
 use Rattle.descriptor.specs.declared.entry.DescriptorType.TheVariants.{Invalid, Table, Leaf}
 use Rattle.descriptor.specs.declared.entry.FaultKind.TheVariants.{Translation, AddressSize, AccessFlag, Permission}
 use Rattle.descriptor.specs.declared.entry.Entry.{Entry}
-use Rattle.descriptor.specs.declared.entry.Entry.TheVariants as Entry
 use Rattle.descriptor.specs.declared.entry.Turn.{Turn}
-use Rattle.descriptor.specs.declared.entry.Turn.TheVariants as Turn
 
 -- the entry that leads somewhere, its table being at an address
 unfoldable pub entry_of : (table : ℕ) → Turn → Entry

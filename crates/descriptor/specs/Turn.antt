@@ -5,11 +5,9 @@ use Rattle.bits.specs.Bits.{pick, bit}
 use Rattle.descriptor.specs.declared.entry.Geometry.{Geometry}
 use Rattle.descriptor.specs.declared.entry.FaultKind.TheVariants as Kind
 use Rattle.descriptor.specs.declared.entry.Entry.{Entry}
-use Rattle.descriptor.specs.declared.entry.Entry.TheVariants as Entry
 use Rattle.descriptor.specs.declared.entry.Inherited.{Inherited}
 use Rattle.descriptor.specs.declared.entry.Masks.{Masks}
 use Rattle.descriptor.specs.declared.entry.Turn.{Turn}
-use Rattle.descriptor.specs.declared.entry.Turn.TheVariants as Turn
 
 -- the mask of bits 47 down to a size
 abbrev pub above : ℕ → ℕ

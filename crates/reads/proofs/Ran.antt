@@ -9,7 +9,7 @@ use lib.ListN.{length, set, length-append, length-map}
 use lib.Seq.{sets, length-sets}
 use mathlib.Core.Bool.{Bool, true, false}
 use Rattle.bits.specs.Bits.{pick}
-use Rattle.reads.specs.Program.{Request, Outcome, reached, stopped, Program, done, stop, note, ask, counted, bind, run, reads}
+use Rattle.reads.specs.Program.{Request, Outcome, reached, stopped, Program, done, stop, note, ask, bind, run, reads}
 use Rattle.reads.specs.declared.Read.{Read}
 use Rattle.reads.specs.declared.Read.TheVariants.{Absent, Word}
 use Rattle.reads.proofs.Laws.{on, run_bind, reads_bind}

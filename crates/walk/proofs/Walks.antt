@@ -1,7 +1,7 @@
 -- What holds of a walk, of either stage: from what holds of its tables, of where its descriptors lie, and of what they say.
 -- Assumes nothing.
 use mathlib.Core.Path.{◌≡◌, refl}
-use Prim.Native.Nat.{ℕ, zero, suc, ◌+◌, ◌-◌, ◌*◌, ◌^◌, ◌<◌}
+use Prim.Native.Nat.{ℕ, zero, suc, ◌+◌, ◌*◌, ◌^◌, ◌<◌}
 use native.Mathlib.Nat.{mod-lt}
 use lib.Pow.{pow_pos}
 use Rattle.bits.specs.Bits.{field, upper}
@@ -11,7 +11,6 @@ use Rattle.reads.specs.declared.Read.{Read}
 use Rattle.reads.specs.declared.Read.TheVariants.{Absent, Word}
 use Rattle.descriptor.specs.declared.entry.Geometry.{Geometry}
 use Rattle.descriptor.specs.declared.entry.DescriptorType.{DescriptorType}
-use Rattle.descriptor.specs.declared.entry.DescriptorType.TheVariants as DescriptorType
 use Rattle.descriptor.specs.declared.entry.FaultKind.{FaultKind}
 use Rattle.descriptor.specs.declared.entry.Inherited.{Inherited}
 use Rattle.bits.proofs.Tests.{by_pick}

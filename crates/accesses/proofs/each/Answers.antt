@@ -1,22 +1,10 @@
 -- `each` meets its contract: what is stored from an address on is what is stored from the first.
 -- Assumes nothing.
-use borrow.Author.Rules.{rules, scaled_Fits}
-use mathlib.Core.Path.{ap, ◌∙◌}
-use Prim.Native.Nat.{ℕ, ◌-◌}
+use mathlib.Core.Path.{◌∙◌}
 use native.Mathlib.Omega.{arith}
-use lib.ListN.{length}
-use Rattle.access.specs.declared.Access.{Access}
-use Rattle.capture.specs.Calls.{captured}
-use Rattle.walk.specs.Calls.{stage2_of}
-use Rattle.walk.specs.declared.end.End.{End}
-use Rattle.stages.specs.Calls.{stage1_of}
-use Rattle.stages.specs.declared.both.Arrival.{Arrival}
-use Rattle.stages.specs.declared.both.By.TheVariants.{First}
-use Rattle.answers.specs.Answers.{number}
-use Rattle.answers.specs.Entries.{answer_of, output_of}
 use Rattle.answers.proofs.Entries.{ran_number, ran_output}
-use Rattle.accesses.proofs.Filling.{Filling, filling_start, filling_next, filling_done}
-use Rattle.accesses.proofs.Runs.{Runs, runs_start, runs_next, runs_left, runs_ended, runs_none}
+use Rattle.accesses.proofs.Filling.{filling_next, filling_done}
+use Rattle.accesses.proofs.Runs.{runs_next, runs_left, runs_ended, runs_none}
 use Rattle.accesses.proofs.each.Goals as goal
 
 pub loop-i-preserved : goal.loop-i-preserved

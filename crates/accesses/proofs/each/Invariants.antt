@@ -1,9 +1,6 @@
 -- `each` meets its contract: what is stored from an address on is what is stored from the first.
 -- Assumes nothing.
-use borrow.Author.Rules.{rules, scaled_Fits}
-use mathlib.Core.Path.{ap, ◌∙◌}
 use Prim.Native.Nat.{ℕ, ◌-◌}
-use native.Mathlib.Omega.{arith}
 use lib.ListN.{length}
 use Rattle.access.specs.declared.Access.{Access}
 use Rattle.capture.specs.Calls.{captured}
@@ -14,9 +11,8 @@ use Rattle.stages.specs.declared.both.Arrival.{Arrival}
 use Rattle.stages.specs.declared.both.By.TheVariants.{First}
 use Rattle.answers.specs.Answers.{number}
 use Rattle.answers.specs.Entries.{answer_of, output_of}
-use Rattle.answers.proofs.Entries.{ran_number, ran_output}
-use Rattle.accesses.proofs.Filling.{Filling, filling_start, filling_next, filling_done}
-use Rattle.accesses.proofs.Runs.{Runs, runs_start, runs_next, runs_left, runs_ended, runs_none}
+use Rattle.accesses.proofs.Filling.{Filling}
+use Rattle.accesses.proofs.Runs.{Runs}
 use Rattle.accesses.proofs.each.Given as goal
 
 -- the access to an address

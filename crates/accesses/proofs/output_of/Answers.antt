@@ -1,6 +1,5 @@
 -- `output_of` meets its contract.
 -- Assumes nothing.
-use borrow.Author.Rules.{rules}
 use Rattle.bits.specs.Bits.{pick}
 use Rattle.accesses.proofs.output_of.Goals as goal
 

@@ -1,6 +1,5 @@
 -- `answered` meets its contract, by how the access ends.
 -- Assumes nothing.
-use borrow.Author.Rules.{rules}
 use Rattle.answers.specs.Answers.{answer}
 use Rattle.stages.specs.Calls.{outcome_of}
 use Rattle.answers.proofs.answered.Goals as goal

@@ -1,6 +1,5 @@
 -- `number` meets its contract, by the answer.
 -- Assumes nothing.
-use borrow.Author.Rules.{rules}
 use Rattle.answers.specs.Answers.{number}
 use Rattle.answers.proofs.number.Goals as goal
 

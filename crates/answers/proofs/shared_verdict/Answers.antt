@@ -1,6 +1,5 @@
 -- `shared_verdict` meets its contract: at each return the tests that led there decide.
 -- Assumes nothing.
-use borrow.Author.Rules.{rules}
 use borrow.Author.Tests.{eq-eqb, ne_eqb}
 use Rattle.bits.specs.Bits.{pick}
 use Rattle.answers.specs.Refusals.{refuse}

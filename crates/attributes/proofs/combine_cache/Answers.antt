@@ -1,7 +1,6 @@
 -- `combine_cache` meets its contract.
 -- Assumes nothing.
 use Rattle.bits.proofs.Tests.{choices}
-use borrow.Author.Rules.{rules}
 use Rattle.attributes.proofs.combine_cache.Goals as goal
 
 pub returns-then-cache_rank : goal.returns-then-cache_rank

@@ -1,7 +1,6 @@
 -- `combine_device` meets its contract.
 -- Assumes nothing.
 use Rattle.bits.proofs.Tests.{choices}
-use borrow.Author.Rules.{rules}
 use Rattle.attributes.proofs.combine_device.Goals as goal
 
 pub returns-then-device_rank : goal.returns-then-device_rank

@@ -1,7 +1,6 @@
 -- `combine_shareability` meets its contract.
 -- Assumes nothing.
 use Rattle.bits.proofs.Tests.{choices}
-use borrow.Author.Rules.{rules}
 use Rattle.attributes.proofs.combine_shareability.Goals as goal
 
 pub returns-then-share_rank : goal.returns-then-share_rank

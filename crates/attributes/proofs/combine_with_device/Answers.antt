@@ -1,7 +1,6 @@
 -- `combine_with_device` meets its contract.
 -- Assumes nothing.
 use Rattle.attributes.specs.Attributes.{combine_memory}
-use borrow.Author.Rules.{rules}
 use Rattle.attributes.proofs.combine_with_device.Goals as goal
 
 pub returns-in-Device : goal.returns-in-Device

@@ -3,7 +3,6 @@
 use borrow.Author.Tests.{eq-eqb, ne_eqb}
 use Rattle.bits.specs.Bits.{pick}
 use Rattle.attributes.specs.Attributes.{mair_byte}
-use borrow.Author.Rules.{rules}
 use Rattle.attributes.proofs.mair_byte.Goals as goal
 
 pub returns-then-byte-eq0 : goal.returns-then-byte-eq0

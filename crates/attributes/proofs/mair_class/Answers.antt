@@ -1,7 +1,6 @@
 -- `mair_class` meets its contract.
 -- Assumes nothing.
 use Rattle.bits.proofs.Tests.{choices}
-use borrow.Author.Rules.{rules}
 use Rattle.attributes.proofs.Classes.{mair_class}
 use Rattle.attributes.proofs.mair_class.Goals as goal
 

@@ -3,7 +3,6 @@
 use borrow.Author.Tests.{eq-eqb, ne_eqb}
 use Rattle.bits.specs.Bits.{pick}
 use Rattle.attributes.specs.Attributes.{normal}
-use borrow.Author.Rules.{rules}
 use Rattle.attributes.proofs.normal.Goals as goal
 
 pub returns-then-sh-eq1 : goal.returns-then-sh-eq1

@@ -1,7 +1,6 @@
 -- `normal_shareability` meets its contract.
 -- Assumes nothing.
 use Rattle.bits.proofs.Tests.{choices}
-use borrow.Author.Rules.{rules}
 use Rattle.attributes.proofs.normal_shareability.Goals as goal
 
 pub returns-then-neither_cacheable : goal.returns-then-neither_cacheable

@@ -1,7 +1,6 @@
 -- `reported` meets its contract.
 -- Assumes nothing.
 use Rattle.attributes.specs.Attributes.{reported}
-use borrow.Author.Rules.{rules}
 use Rattle.attributes.proofs.reported.Goals as goal
 
 pub returns-in-Device : goal.returns-in-Device

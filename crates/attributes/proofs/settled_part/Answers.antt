@@ -1,7 +1,6 @@
 -- `settled_part` meets its contract.
 -- Assumes nothing.
 use Rattle.attributes.specs.Attributes.{reported, settled_part}
-use borrow.Author.Rules.{rules}
 use Rattle.attributes.proofs.settled_part.Goals as goal
 
 pub returns-in-Settled : goal.returns-in-Settled

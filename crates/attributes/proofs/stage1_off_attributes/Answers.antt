@@ -2,7 +2,6 @@
 -- Assumes nothing.
 use Rattle.bits.specs.Bits.{pick}
 use Rattle.attributes.specs.Attributes.{stage1_off_attributes}
-use borrow.Author.Rules.{rules}
 use Rattle.attributes.proofs.stage1_off_attributes.Goals as goal
 
 pub returns-then-dc : goal.returns-then-dc

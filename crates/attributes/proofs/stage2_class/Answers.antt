@@ -1,7 +1,6 @@
 -- `stage2_class` meets its contract.
 -- Assumes nothing.
 use Rattle.bits.proofs.Tests.{choices}
-use borrow.Author.Rules.{rules}
 use Rattle.attributes.proofs.Classes.{codes_class}
 use Rattle.attributes.proofs.stage2_class.Goals as goal
 

@@ -3,7 +3,6 @@
 use borrow.Author.Tests.{eq-eqb, ne_eqb}
 use Rattle.bits.specs.Bits.{pick}
 use Rattle.attributes.specs.Attributes.{stage2_codes}
-use borrow.Author.Rules.{rules}
 use Rattle.attributes.proofs.stage2_codes.Goals as goal
 
 pub returns-then-outer-eq0 : goal.returns-then-outer-eq0

@@ -1,8 +1,5 @@
 -- `audit` meets its contract: a raw capture is one part, the whole of it; and demand 3 holds of every audit.
 -- Assumes nothing.
-use borrow.Author.Rules.{rules}
-use mathlib.Core.Path.{◌≡◌, sym, ◌∙◌}
-use Rattle.layout.proofs.Raw.{raw_held}
 use Rattle.audit.proofs.Confinement.{confinement}
 use Rattle.audit.proofs.Telling.{raw_told}
 use Rattle.audit.proofs.audit.Goals as goal

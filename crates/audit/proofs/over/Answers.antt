@@ -1,7 +1,5 @@
 -- `over` meets its contract: its refusals in their order, and then what the tables say.
 -- Assumes nothing.
-use borrow.Author.Rules.{rules}
-use borrow.Author.Tests.{not-true, not-false}
 use mathlib.Core.Path.{◌≡◌, sym, ◌∙◌}
 use mathlib.Core.Bool.{false}
 use Rattle.capture.specs.Calls.{captured}
@@ -51,8 +49,7 @@ returns-then-not-passed c =
 pub from_root-requires : goal.from_root-requires
 from_root-requires c =
     let usable : (let z = c.args in
-    (root2 z.r ≡ Usable c.start2-start.result.table) × Fit c.start2-start.result) = starts_usable _ _ c.start2-start.ensures (sym c.passed.ensures ∙ c.if-not-passed.false) in
-    (
+    (root2 z.r ≡ Usable c.start2-start.result.table) × Fit c.start2-start.result) = starts_usable _ _ c.start2-start.ensures (sym c.passed.ensures ∙ c.if-not-passed.false) in (
       formed _ _ _ _ _ c.table_size.ensures.1 (sym c.before.well_formed-2.ensures ∙ c.if-not-well_formed.false),
       usable.1.small,
       c.requires c.if-high.false,

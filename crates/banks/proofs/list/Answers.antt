@@ -5,8 +5,7 @@ use borrow.Author.Tests.{not-true, not-false}
 use native.Mathlib.Omega.{arith}
 use mathlib.Core.Path.{sym, ◌∙◌}
 use Prim.Native.Nat.{◌*◌, ◌≤◌}
-use lib.ListN.{length}
-use Rattle.banks.proofs.Telling.{tells_core, tells_short, tells_listed, long_lists, accepted, counted, few, lent_banks, lent_count}
+use Rattle.banks.proofs.Telling.{tells_core, tells_short, tells_listed, accepted, counted, few, lent_banks}
 use Rattle.banks.proofs.list.Goals as goal
 
 pub returns-then-not-said : goal.returns-then-not-said

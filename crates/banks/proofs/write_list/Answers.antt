@@ -1,15 +1,12 @@
 -- `write_list` meets its contract: each turn writes one bank's word into each list.
 -- Assumes nothing.
-use borrow.Author.Rules.{rules}
-use native.Mathlib.Omega.{arith}
 use mathlib.Core.Path.{refl, ap, ◌∙◌}
-use Prim.Native.Nat.{◌+◌, ◌-◌, ◌*◌}
+use Prim.Native.Nat.{◌+◌, ◌*◌}
 use lib.ListN.{get_or}
 use lib.Dec.{ltb}
 use Rattle.bits.specs.Bits.{pick}
 use Rattle.capture.specs.Capture.{kept}
-use Rattle.banks.specs.Banks.{kept_of, short_of}
-use Rattle.banks.proofs.Writing.{Writing, begin, next, end}
+use Rattle.banks.proofs.Writing.{next, end}
 use Rattle.banks.proofs.write_list.Goals as goal
 
 pub loop-i-preserved : goal.loop-i-preserved

@@ -1,15 +1,8 @@
 -- `write_list` meets its contract: each turn writes one bank's word into each list.
 -- Assumes nothing.
-use borrow.Author.Rules.{rules}
-use native.Mathlib.Omega.{arith}
-use mathlib.Core.Path.{refl, ap, ◌∙◌}
-use Prim.Native.Nat.{◌+◌, ◌-◌, ◌*◌}
-use lib.ListN.{get_or}
-use lib.Dec.{ltb}
-use Rattle.bits.specs.Bits.{pick}
-use Rattle.capture.specs.Capture.{kept}
+use Prim.Native.Nat.{◌-◌}
 use Rattle.banks.specs.Banks.{kept_of, short_of}
-use Rattle.banks.proofs.Writing.{Writing, begin, next, end}
+use Rattle.banks.proofs.Writing.{Writing}
 use Rattle.banks.proofs.write_list.Given as goal
 
 abbrev pub invariant-loop-i : goal.invariant-loop-i

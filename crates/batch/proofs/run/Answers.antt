@@ -5,7 +5,7 @@ use mathlib.Core.Path.{◌≡◌, sym, ◌∙◌}
 use native.Mathlib.Omega.{arith}
 use Rattle.layout.proofs.Raw.{raw_held}
 use Rattle.answers.specs.declared.Verdict.TheVariants.{Accepted}
-use Rattle.batch.specs.Batch.{Shared, sharing}
+use Rattle.batch.specs.Batch.{sharing}
 use Rattle.batch.proofs.Promises.{promised}
 use Rattle.batch.proofs.Telling.{own, Running, running, tells_refused, tells_filled, filled_by, raw_tells}
 use Rattle.batch.proofs.run.Goals as goal
@@ -21,8 +21,7 @@ pub each-requires : goal.each-requires
 each-requires c =
     let z = c.args in
     let accepted : own c.ends_high-high.result (sharing z.r z.g z.kind z.el z.size) z.addresses.now z.outputs.now z.numbers.now ≡ Accepted = sym c.verdict_of-verdict.ensures ∙ c.in-Accepted.is in
-    let runs : Running c.ends_high-high.result (sharing z.r z.g z.kind z.el z.size) z.addresses.now z.outputs.now z.numbers.now = running accepted in
-    (
+    let runs : Running c.ends_high-high.result (sharing z.r z.g z.kind z.el z.size) z.addresses.now z.outputs.now z.numbers.now = running accepted in (
       c.prepared1-p.ensures.1,
       c.prepared2-q.ensures.1,
       runs.size,

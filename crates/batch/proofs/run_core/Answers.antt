@@ -8,7 +8,7 @@ use native.Mathlib.Omega.{arith}
 use Prim.Native.Nat.{◌*◌, ◌≤◌}
 use Rattle.layout.proofs.Core.{few, held}
 use Rattle.answers.specs.declared.Verdict.TheVariants.{Accepted}
-use Rattle.batch.specs.Batch.{Shared, sharing}
+use Rattle.batch.specs.Batch.{sharing}
 use Rattle.batch.proofs.Promises.{promised}
 use Rattle.batch.proofs.Telling.{own, Running, running, tells_refused, tells_filled, filled_by, core_tells, core_refused}
 use Rattle.batch.proofs.run_core.Goals as goal
@@ -40,8 +40,7 @@ each-requires c =
     let z = c.args in
     let accepted : own c.lay_out-laid.result.high (sharing z.r z.g z.kind z.el z.size) z.addresses.now z.outputs.now z.numbers.now ≡ Accepted = sym c.verdict_of-verdict.ensures ∙ c.in-Accepted.is in
     let runs : Running c.lay_out-laid.result.high (sharing z.r z.g z.kind z.el z.size) z.addresses.now z.outputs.now z.numbers.now = running accepted in
-    let readable : c.lay_out-laid.result.readable ≡ true = not-false _ c.if-not-laid.false in
-    (
+    let readable : c.lay_out-laid.result.readable ≡ true = not-false _ c.if-not-laid.false in (
       c.prepared1-p.ensures.1,
       c.prepared2-q.ensures.1,
       runs.size,

@@ -1,6 +1,5 @@
 -- `verdict_of` meets its contract: its lists come first.
 -- Assumes nothing.
-use borrow.Author.Rules.{rules}
 use mathlib.Core.Path.{refl, sym, ◌∙◌}
 use Rattle.bits.specs.Bits.{pick}
 use Rattle.bits.proofs.Tests.{then, else}

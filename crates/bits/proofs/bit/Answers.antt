@@ -1,6 +1,5 @@
 -- `bit` meets its contract: past the end every bit is clear.
 -- Assumes nothing.
-use borrow.Author.Rules.{rules}
 use Rattle.bits.proofs.Shifts.{shifted_out}
 use Rattle.bits.proofs.bit.Goals as goal
 

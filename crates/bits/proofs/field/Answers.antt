@@ -1,12 +1,9 @@
 -- `field` meets its contract: past the end there is nothing, and a field of 64 bits and more is all that is left.
 -- Assumes nothing.
-use borrow.Author.Rules.{rules}
 use mathlib.Core.Path.{sym}
 use Prim.Native.Nat.{◌^◌}
-use native.Mathlib.Omega.{arith}
 use native.Mathlib.Nat.{lt_of_le_of_lt, div-le_self, zero-mod}
-use lib.Pow.{pow_pos}
-use Rattle.bits.proofs.Shifts.{shifted_out, kept, one_shl}
+use Rattle.bits.proofs.Shifts.{shifted_out, kept}
 use Rattle.bits.proofs.field.Goals as goal
 
 pub returns-else-n-lt64 : goal.returns-else-n-lt64

@@ -1,8 +1,7 @@
 -- `upper` meets its contract.
 -- Assumes nothing.
-use borrow.Author.Rules.{rules}
 use native.Mathlib.Nat.{zero-mul}
-use Rattle.bits.proofs.Shifts.{shifted_out, low_48, shl_back}
+use Rattle.bits.proofs.Shifts.{shifted_out, low_48}
 use Rattle.bits.proofs.upper.Goals as goal
 
 pub returns-else-low-lt48 : goal.returns-else-low-lt48

@@ -1,7 +1,7 @@
 -- `find` meets its contract: the part that it looks into is the only one that may have the descriptor.
 -- Assumes nothing.
-use Rattle.std.proofs.Common.{◌≡◌, ℕ, ◌<◌, sym, arith, rules}
-use Rattle.capture.proofs.Searches.{none_starts, placed_nowhere, last, starts, spot_lacks, spot_has}
+use Rattle.std.proofs.Common.{◌≡◌, ℕ, ◌<◌, sym, arith}
+use Rattle.capture.proofs.Searches.{none_starts, placed_nowhere, spot_lacks, spot_has}
 use Rattle.capture.proofs.find.Goals as goal
 
 some : {k : ℕ} → (k ≡ 0 → ⊥) → 0 < k

@@ -1,6 +1,6 @@
 -- `read` meets its contract: what the part in front has is there, and what it has not is left to the others.
 -- Assumes nothing.
-use Rattle.std.proofs.Common.{◌≡◌, sym, ◌∙◌, rules}
+use Rattle.std.proofs.Common.{sym, ◌∙◌}
 use Rattle.capture.proofs.Searches.{front_has, front_lacks}
 use Rattle.capture.proofs.read.Goals as goal
 

@@ -1,6 +1,6 @@
 -- `read_front` meets its contract: the part's bytes, which stand at its address.
 -- Assumes nothing.
-use Rattle.std.proofs.Common.{◌≡◌, ◌∙◌, rules}
+use Rattle.std.proofs.Common.{◌∙◌}
 use Rattle.capture.proofs.Searches.{alone}
 use Rattle.capture.proofs.read_front.Goals as goal
 

@@ -1,6 +1,6 @@
 -- `read_logged` meets its contract: as `read`, and the log has the address of what was there.
 -- Assumes nothing.
-use Rattle.std.proofs.Common.{◌≡◌, sym, refl, ap, ◌∙◌, rules}
+use Rattle.std.proofs.Common.{sym, refl, ap, ◌∙◌}
 use Rattle.reads.specs.declared.Read.TheVariants.{Word}
 use Rattle.capture.proofs.Searches.{ordered, front_has, front_lacks, none_placed, one_placed}
 use Rattle.capture.specs.Calls.{logged}

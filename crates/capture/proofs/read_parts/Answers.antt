@@ -1,6 +1,6 @@
 -- `read_parts` meets its contract: it reads where the descriptor stands.
 -- Assumes nothing.
-use Rattle.std.proofs.Common.{◌≡◌, ap, ◌∙◌, rules}
+use Rattle.std.proofs.Common.{ap, ◌∙◌}
 use Rattle.reads.specs.declared.Read.TheVariants.{Word}
 use Rattle.capture.proofs.Searches.{ordered, none_placed, one_placed}
 use Rattle.capture.proofs.read_parts.Goals as goal

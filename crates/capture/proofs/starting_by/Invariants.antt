@@ -1,7 +1,7 @@
 -- `starting_by` meets its contract: parts before `low` start at or below the address, those from `high` on above it.
 -- Assumes nothing.
-use Rattle.std.proofs.Common.{◌≡◌, ℕ, ◌+◌, ◌-◌, ◌*◌, ◌/◌, ◌<◌, ◌≤◌, Bool, true, false, ltb, List, length, refl, arith, rules, ltb-false, ltb-true}
-use Rattle.capture.specs.Calls.{part_at, count_of, StartingBy}
+use Rattle.std.proofs.Common.{◌≡◌, ℕ, ◌+◌, ◌-◌, ◌/◌, ◌<◌, ◌≤◌, Bool, true, false, ltb, List, refl, arith, ltb-false, ltb-true}
+use Rattle.capture.specs.Calls.{part_at, count_of}
 use Rattle.capture.proofs.starting_by.Given as goal
 
 -- where the search stands

@@ -1,6 +1,6 @@
 -- `word_at` meets its contract: the eight bytes from a place of the part on.
 -- Assumes nothing.
-use Rattle.std.proofs.Common.{◌≡◌, ◌-◌, take, drop, ◌∙◌, arith, rules}
+use Rattle.std.proofs.Common.{◌-◌, take, drop, ◌∙◌, rules}
 use Rattle.capture.proofs.Spelled.{eight}
 use Rattle.capture.proofs.word_at.Goals as goal
 

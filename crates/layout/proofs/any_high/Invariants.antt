@@ -1,15 +1,13 @@
 -- `any_high` meets its contract: a bank that ends by 2^48 leaves the verdict to those after it.
 -- Assumes nothing.
-use borrow.Author.Rules.{rules}
-use mathlib.Core.Path.{◌≡◌, ap}
+use mathlib.Core.Path.{◌≡◌}
 use mathlib.Core.Bool.{◌||◌}
 use mathlib.Core.List.{List}
 use Prim.Native.Nat.{ℕ, ◌+◌, ◌-◌, ◌<◌}
-use Rattle.bits.proofs.Tests.{told}
 use Rattle.capture.specs.Capture.{ends_high, any_high}
 use Rattle.capture.specs.Calls.{count_of}
 use Rattle.layout.specs.Calls.{bank_by, banks_by}
-use Rattle.layout.proofs.Steps.{from, from_next, from_end, from_start}
+use Rattle.layout.proofs.Steps.{from, from_next}
 use Rattle.layout.proofs.any_high.Given as goal
 
 -- the banks from i on decide

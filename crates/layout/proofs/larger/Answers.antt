@@ -1,6 +1,5 @@
 -- `larger` meets its contract: its test is that of the definition.
 -- Assumes nothing.
-use borrow.Author.Rules.{rules}
 use mathlib.Core.Path.{sym}
 use Rattle.bits.proofs.Tests.{pick_true, pick_false, told_le, told_lt}
 use Rattle.layout.proofs.larger.Goals as goal

@@ -1,7 +1,7 @@
 -- `lone_bank` meets its contract: of the tests of `is_core` those that a single bank can fail are left, in their order.
 -- Assumes nothing.
 use borrow.Author.Rules.{rules}
-use borrow.Author.Tests.{ne_eqb, not-true, not-false}
+use borrow.Author.Tests.{ne_eqb}
 use mathlib.Core.Path.{◌≡◌, refl, sym, ap, ◌∙◌}
 use mathlib.Core.Bool.{Bool, true, false, not, ◌&&◌, and-false, true≢false, false≢true}
 use mathlib.Core.List.{List, [], ◌∷◌}
@@ -75,10 +75,10 @@ pub returns-then-meets : goal.returns-then-meets
 returns-then-meets c =
     let headers : (headed c.args.file.now ≡ true) = told c.is_headed.ensures c.if-not-is_headed.false in
     let bank : banks c.args.file.now ≡ bank_of c.header_at-bank.result ∷ [] =
-        only c.args.file.now c.header_count-n.ensures.0 c.headers_at-at.ensures c.count_banks-banks.ensures c.if-banks-ne1.false c.header_at-bank.ensures in
+    only c.args.file.now c.header_count-n.ensures.0 c.headers_at-at.ensures c.count_banks-banks.ensures c.if-banks-ne1.false c.header_at-bank.ensures in
     let judge : (v w : Bool) → meets 0 64 c.of_bank-part.result ≡ v →
-        meets c.headers_at-at.result (c.headers_at-at.result + 56 * c.header_count-n.result) c.of_bank-part.result ≡ w → Sole c.args.file.now (not v && not w) =
-        λ v w. judged c.args.file.now c.header_count-n.ensures.0 c.headers_at-at.ensures headers bank c.of_bank-part.ensures in
+    meets c.headers_at-at.result (c.headers_at-at.result + 56 * c.header_count-n.result) c.of_bank-part.result ≡ w → Sole c.args.file.now (not v && not w) =
+    λ v w. judged c.args.file.now c.header_count-n.ensures.0 c.headers_at-at.ensures headers bank c.of_bank-part.ensures in
     rw c.none_alone-then-meets.ensures (refused _ (judge _ _ (told c.meets.ensures c.if-meets.true) refl))
 
 pub overflow_add-at : goal.overflow_add-at
@@ -91,11 +91,10 @@ pub returns-then-meets-2 : goal.returns-then-meets-2
 returns-then-meets-2 c =
     let headers : (headed c.args.file.now ≡ true) = told c.is_headed.ensures c.if-not-is_headed.false in
     let bank : banks c.args.file.now ≡ bank_of c.header_at-bank.result ∷ [] =
-        only c.args.file.now c.header_count-n.ensures.0 c.headers_at-at.ensures c.count_banks-banks.ensures c.if-banks-ne1.false c.header_at-bank.ensures in
+    only c.args.file.now c.header_count-n.ensures.0 c.headers_at-at.ensures c.count_banks-banks.ensures c.if-banks-ne1.false c.header_at-bank.ensures in
     let judge : (v w : Bool) → meets 0 64 c.of_bank-part.result ≡ v →
-        meets c.headers_at-at.result (c.headers_at-at.result + 56 * c.header_count-n.result) c.of_bank-part.result ≡ w → Sole c.args.file.now (not v && not w) =
-        λ v w. judged c.args.file.now c.header_count-n.ensures.0 c.headers_at-at.ensures headers bank c.of_bank-part.ensures in
-    
+    meets c.headers_at-at.result (c.headers_at-at.result + 56 * c.header_count-n.result) c.of_bank-part.result ≡ w → Sole c.args.file.now (not v && not w) =
+    λ v w. judged c.args.file.now c.header_count-n.ensures.0 c.headers_at-at.ensures headers bank c.of_bank-part.ensures in
     rw c.none_alone-then-meets-2.ensures
     (refused _ (judge _ _ (told c.meets.ensures c.if-meets.false) (told c.meets-2.ensures c.if-meets-2.true)))
 
@@ -103,11 +102,10 @@ pub returns : goal.returns
 returns c =
     let headers : (headed c.args.file.now ≡ true) = told c.is_headed.ensures c.if-not-is_headed.false in
     let bank : banks c.args.file.now ≡ bank_of c.header_at-bank.result ∷ [] =
-        only c.args.file.now c.header_count-n.ensures.0 c.headers_at-at.ensures c.count_banks-banks.ensures c.if-banks-ne1.false c.header_at-bank.ensures in
+    only c.args.file.now c.header_count-n.ensures.0 c.headers_at-at.ensures c.count_banks-banks.ensures c.if-banks-ne1.false c.header_at-bank.ensures in
     let judge : (v w : Bool) → meets 0 64 c.of_bank-part.result ≡ v →
-        meets c.headers_at-at.result (c.headers_at-at.result + 56 * c.header_count-n.result) c.of_bank-part.result ≡ w → Sole c.args.file.now (not v && not w) =
-        λ v w. judged c.args.file.now c.header_count-n.ensures.0 c.headers_at-at.ensures headers bank c.of_bank-part.ensures in
-    
+    meets c.headers_at-at.result (c.headers_at-at.result + 56 * c.header_count-n.result) c.of_bank-part.result ≡ w → Sole c.args.file.now (not v && not w) =
+    λ v w. judged c.args.file.now c.header_count-n.ensures.0 c.headers_at-at.ensures headers bank c.of_bank-part.ensures in
     record {
       found = sym (judge _ _ (told c.meets.ensures c.if-meets.false) (told c.meets-2.ensures c.if-meets-2.false));
       none = λ t. absurd (true≢false t);

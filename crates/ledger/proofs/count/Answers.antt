@@ -1,10 +1,7 @@
 -- `count` meets its contract: after i turns each counter is how many of the first i numbers are below its bound, which a word holds.
 -- Assumes nothing.
-use borrow.Author.Rules.{rules}
-use Prim.Native.Nat.{◌-◌}
 use native.Mathlib.Omega.{arith}
-use lib.ListN.{length}
-use Rattle.ledger.proofs.Figures.{counted_start, counted_next, Counting, counting_done, differences}
+use Rattle.ledger.proofs.Figures.{counted_start, counted_next, counting_done, differences}
 use Rattle.ledger.proofs.count.Goals as goal
 
 pub loop-i-init : goal.loop-i-init

@@ -1,7 +1,5 @@
 -- `levels_below` meets its contract, by the level's sign. Assumes nothing.
 use mathlib.Core.Path.{◌∙◌}
-use Prim.Native.Nat.{◌-◌}
-use native.Mathlib.Omega.{arith}
 use mir.Syntax.{w64}
 use mir.Facts.{to_z_pos, to_z-of_z}
 use Rattle.level.specs.Level.{levels_below}

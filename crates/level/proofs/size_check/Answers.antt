@@ -1,12 +1,11 @@
 -- `size_check` meets its contract: at each start level all its sums fit. Assumes nothing.
-use borrow.Author.Rules.{rules}
-use mathlib.Core.Path.{◌∙◌, ◌≡◌}
-use Prim.Native.Nat.{◌-◌, ℕ, ◌%◌, ◌<◌}
+use mathlib.Core.Path.{◌∙◌}
+use Prim.Native.Nat.{◌-◌}
 use native.Mathlib.Nat.{mod-lt}
 use native.Mathlib.Omega.{arith}
 use Rattle.level.specs.Granule.{stride_of}
 use Rattle.level.specs.Level.{size_check}
-use Rattle.level.proofs.Signed.{Level, level_of, levels_fit, strides_fit, below_fits, left_fits, check_is}
+use Rattle.level.proofs.Signed.{level_of, levels_fit, strides_fit, below_fits, left_fits, check_is}
 use Rattle.level.proofs.size_check.Goals as goal
 
 pub overflow_sub-result : goal.overflow_sub-result

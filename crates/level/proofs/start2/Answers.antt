@@ -1,11 +1,10 @@
 -- `start2` meets its contract: SL0 has two bits. Assumes nothing.
-use borrow.Author.Rules.{rules}
 use mathlib.Core.Path.{ap, ◌∙◌}
 use Prim.Native.Nat.{◌+◌}
 use native.Mathlib.Omega.{arith}
 use lib.IntN.{pos, ◌-ℤ◌}
 use Rattle.level.specs.Level.{start2}
-use Rattle.level.proofs.Signed.{less_fits, less_is}
+use Rattle.level.proofs.Signed.{less_is}
 use Rattle.level.proofs.start2.Goals as goal
 
 pub returns : goal.returns

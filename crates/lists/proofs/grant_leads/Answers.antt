@@ -1,6 +1,5 @@
 -- `grant_leads` meets its contract: the next pair, if there is one, is the first of those after it.
 -- Assumes nothing.
-use borrow.Author.Rules.{rules}
 use Rattle.lists.specs.Lists.{grant_before}
 use Rattle.lists.proofs.Orders.{leads_next, leads_none}
 use Rattle.lists.proofs.grant_leads.Goals as goal

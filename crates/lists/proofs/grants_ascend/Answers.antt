@@ -1,13 +1,9 @@
 -- `grants_ascend` meets its contract: a pair that fits and leads the next leaves the verdict to those after it.
 -- Assumes nothing.
 use borrow.Author.Rules.{rules}
-use borrow.Author.Tests.{not-true, not-false}
-use mathlib.Core.Path.{refl, sym, ◌∙◌}
-use Prim.Native.Nat.{◌-◌}
-use lib.ListN.{length}
-use Rattle.lists.specs.Lists.{grant_fits, grant_before}
+use mathlib.Core.Path.{sym, ◌∙◌}
 use Rattle.lists.proofs.Pairs.{grant_ends}
-use Rattle.lists.proofs.Orders.{Deciding, unfit, unled, goes_on, all_ordered}
+use Rattle.lists.proofs.Orders.{unfit, unled, goes_on, all_ordered}
 use Rattle.lists.proofs.grants_ascend.Goals as goal
 
 pub returns-then-not-grant_fits : goal.returns-then-not-grant_fits

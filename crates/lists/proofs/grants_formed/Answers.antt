@@ -1,6 +1,5 @@
 -- `grants_formed` meets its contract: its tests are the definition's, in their order.
 -- Assumes nothing.
-use borrow.Author.Rules.{rules}
 use borrow.Author.Tests.{eq-eqb, ne_eqb, le-leb, lt-leb}
 use Rattle.lists.specs.Lists.{grants_formed}
 use Rattle.lists.proofs.grants_formed.Goals as goal

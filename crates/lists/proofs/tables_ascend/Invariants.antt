@@ -1,12 +1,9 @@
 -- `tables_ascend` meets its contract: a pair that fits and leads the next leaves the verdict to those after it.
 -- Assumes nothing.
-use borrow.Author.Rules.{rules}
-use borrow.Author.Tests.{not-true, not-false}
-use mathlib.Core.Path.{refl, sym, ◌∙◌}
 use Prim.Native.Nat.{◌-◌}
 use lib.ListN.{length}
 use Rattle.lists.specs.Lists.{table_fits, table_before}
-use Rattle.lists.proofs.Orders.{Deciding, unfit, unled, goes_on, all_ordered}
+use Rattle.lists.proofs.Orders.{Deciding}
 use Rattle.lists.proofs.tables_ascend.Given as goal
 
 abbrev pub invariant-loop-i : goal.invariant-loop-i

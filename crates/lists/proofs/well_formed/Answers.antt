@@ -1,6 +1,5 @@
 -- `well_formed` meets its contract, by those of what it calls.
 -- Assumes nothing.
-use borrow.Author.Rules.{rules}
 use Rattle.lists.specs.Lists.{well_formed}
 use Rattle.lists.proofs.well_formed.Goals as goal
 

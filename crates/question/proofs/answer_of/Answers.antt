@@ -1,6 +1,5 @@
 -- `answer_of` meets its contract: of the stages, attributes go by nothing but what `memory` takes from the registers.
 -- Assumes nothing.
-use borrow.Author.Rules.{rules}
 use mathlib.Core.Path.{◌≡◌, ap, ◌∙◌}
 use Rattle.access.specs.declared.Access.{Access}
 use Rattle.walk.specs.declared.stage2.Stage2.{Stage2}

@@ -1,10 +1,8 @@
 -- `arrival` meets its contract: the access is that by the address's own VA range.
 -- Assumes nothing.
-use borrow.Author.Rules.{rules}
 use mathlib.Core.Path.{◌≡◌}
 use mathlib.Core.List.{List}
 use Prim.Native.Nat.{ℕ, ◌^◌, ◌<◌}
-use native.Mathlib.Omega.{arith}
 use Rattle.bits.specs.Bits.{bit}
 use Rattle.reads.specs.Program.{Request}
 use Rattle.reads.specs.Ran.{Ran}

@@ -1,7 +1,6 @@
 -- `over` meets its contract: the verdict, and then the access.
 -- Assumes nothing.
-use borrow.Author.Rules.{rules}
-use mathlib.Core.Path.{◌≡◌, sym, ◌∙◌}
+use mathlib.Core.Path.{sym, ◌∙◌}
 use Rattle.question.proofs.Telling.{tells_short, tells_refused, tells_ran, may_run}
 use Rattle.question.proofs.over.Goals as goal
 

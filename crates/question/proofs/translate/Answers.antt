@@ -1,8 +1,5 @@
 -- `translate` meets its contract: a raw capture is one part, the whole of it.
 -- Assumes nothing.
-use borrow.Author.Rules.{rules}
-use mathlib.Core.Path.{◌≡◌, sym, ◌∙◌}
-use Rattle.layout.proofs.Raw.{raw_held}
 use Rattle.answers.proofs.Counts.{counts}
 use Rattle.answers.proofs.Framing.{framing}
 use Rattle.question.proofs.Telling.{raw_tells}

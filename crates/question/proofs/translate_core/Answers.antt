@@ -1,6 +1,5 @@
 -- `translate_core` meets its contract: a bank that is alone is one part, and else all of them are read.
 -- Assumes nothing.
-use borrow.Author.Rules.{rules}
 use Rattle.layout.proofs.Core.{lone_held}
 use Rattle.answers.proofs.Counts.{counts}
 use Rattle.answers.proofs.Framing.{framing}

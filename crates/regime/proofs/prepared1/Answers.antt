@@ -1,8 +1,6 @@
 -- `prepared1` meets its contract, by those of what it calls.
 -- Assumes nothing.
-use borrow.Author.Rules.{rules}
 use mathlib.Core.Path.{◌∙◌}
-use native.Mathlib.Omega.{arith}
 use Rattle.regime.specs.Calls.{SoundHalf}
 use Rattle.regime.proofs.Settings.{lower_sound, upper_sound}
 use Rattle.regime.proofs.Ready.{range_narrow, words_are, words_sound}

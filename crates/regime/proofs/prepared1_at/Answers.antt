@@ -1,6 +1,5 @@
 -- `prepared1_at` meets its contract, by those of what it calls.
 -- Assumes nothing.
-use borrow.Author.Rules.{rules}
 use mathlib.Core.Path.{◌∙◌}
 use native.Mathlib.Omega.{arith}
 use Rattle.regime.specs.Calls.{SoundHalf}

@@ -1,6 +1,5 @@
 -- `prepared2` meets its contract, by those of what it calls.
 -- Assumes nothing.
-use borrow.Author.Rules.{rules}
 use mathlib.Core.Path.{sym, ◌∙◌}
 use mathlib.Core.Bool.{true≢false}
 use Rattle.bits.proofs.Tests.{pick_true, pick_false}

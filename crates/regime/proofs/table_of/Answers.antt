@@ -1,11 +1,8 @@
 -- `table_of` meets its contract: a mask keeps the bits of the base.
 -- Assumes nothing.
-use borrow.Author.Rules.{rules}
-use Prim.Native.Nat.{◌+◌, ◌*◌, ◌≤◌}
-use native.Mathlib.Nat.{mul-le-mul}
+use Prim.Native.Nat.{◌+◌, ◌≤◌}
 use native.Mathlib.Numerals.{add-one}
 use native.Mathlib.Omega.{arith}
-use lib.Pow.{pow_mono}
 use Rattle.bits.proofs.Shifts.{one_shl}
 use Rattle.descriptor.proofs.Masks.{and_table}
 use Rattle.regime.proofs.table_of.Goals as goal

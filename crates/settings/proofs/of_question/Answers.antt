@@ -1,7 +1,6 @@
 -- `of_question` meets its contract: the first items decide where one fails, then item 4, then the others. Assumes nothing.
 use mathlib.Core.Path.{refl}
 use mathlib.Core.List.{[]}
-use borrow.Author.Tests.{not-true, not-false}
 use Rattle.bits.specs.Bits.{pick}
 use Rattle.bits.proofs.Tests.{told}
 use Rattle.settings.specs.Settings.{first_failing, first_items, settings}

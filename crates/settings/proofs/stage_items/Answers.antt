@@ -1,5 +1,4 @@
 -- `stage_items` meets its contract: nothing is asked of stage 1 where it is off, and where it is on, the first test that fails returns its item. Assumes nothing.
-use borrow.Author.Tests.{not-true, not-false}
 use Rattle.bits.specs.Bits.{pick}
 use Rattle.bits.proofs.Tests.{told}
 use Rattle.settings.specs.Settings.{first_failing}

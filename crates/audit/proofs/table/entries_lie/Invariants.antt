@@ -1,12 +1,8 @@
 -- `entries_lie` meets its contract: an entry that is clean leaves the answer to those after it.
 -- Assumes nothing.
-use borrow.Author.Rules.{rules}
-use borrow.Author.Tests.{not-true, not-false}
-use mathlib.Core.Path.{sym, ap, ◌∙◌}
-use native.Mathlib.Omega.{arith}
 use Rattle.capture.specs.Calls.{captured}
-use Rattle.audit.specs.Calls.{entry_lies, is_clean}
-use Rattle.audit.proofs.Calls.{Left, left_all, left_next, left_found, left_none}
+use Rattle.audit.specs.Calls.{entry_lies}
+use Rattle.audit.proofs.Calls.{Left}
 use Rattle.audit.proofs.table.entries_lie.Given as goal
 
 abbrev pub invariant-loop-left : goal.invariant-loop-left

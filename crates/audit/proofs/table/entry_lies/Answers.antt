@@ -1,6 +1,5 @@
 -- `entry_lies` meets its contract, by what the read finds.
 -- Assumes nothing.
-use borrow.Author.Rules.{rules}
 use Rattle.reads.specs.Program.{stage_2}
 use Rattle.audit.specs.Audit.{missing}
 use Rattle.audit.proofs.table.entry_lies.Goals as goal

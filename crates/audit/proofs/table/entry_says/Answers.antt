@@ -1,6 +1,5 @@
 -- `entry_says` meets its contract, by what the read finds.
 -- Assumes nothing.
-use borrow.Author.Rules.{rules}
 use Rattle.reads.specs.Program.{stage_2}
 use Rattle.audit.specs.Audit.{examine}
 use Rattle.audit.proofs.table.entry_says.Goals as goal

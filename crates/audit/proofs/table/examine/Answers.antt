@@ -1,11 +1,5 @@
 -- `examine` meets its contract, by the type of the descriptor.
 -- Assumes nothing.
-use borrow.Author.Rules.{rules}
-use Prim.Native.Nat.{◌≤◌, ◌^◌}
-use native.Mathlib.Omega.{arith}
-use lib.Pow.{pow_mono}
-use Rattle.descriptor.specs.Entry.{shift}
-use Rattle.descriptor.proofs.Masks.{upper_small}
 use Rattle.audit.specs.Audit.{examine_as}
 use Rattle.audit.proofs.table.examine.Goals as goal
 

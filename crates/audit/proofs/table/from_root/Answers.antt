@@ -1,7 +1,5 @@
 -- `from_root` meets its contract: the root, and then the listed tables.
 -- Assumes nothing.
-use borrow.Author.Rules.{rules}
-use borrow.Author.Tests.{not-true, not-false}
 use mathlib.Core.Path.{sym, ◌∙◌}
 use Rattle.audit.specs.Audit.{audit_from}
 use Rattle.audit.proofs.Calls.{or_clean, or_found}

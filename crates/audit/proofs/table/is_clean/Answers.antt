@@ -1,6 +1,5 @@
 -- `is_clean` meets its contract.
 -- Assumes nothing.
-use borrow.Author.Rules.{rules}
 use Rattle.audit.specs.Calls.{is_clean}
 use Rattle.audit.proofs.table.is_clean.Goals as goal
 

@@ -1,16 +1,12 @@
 -- `listed_tables` meets its contract: a table that is clean leaves the answer to those after it.
 -- Assumes nothing.
-use borrow.Author.Rules.{rules}
-use borrow.Author.Tests.{not-true, not-false}
 use mathlib.Core.Path.{refl, sym, ◌∙◌}
 use Prim.Native.Nat.{◌-◌, ◌*◌, ◌^◌, ◌≤◌, ◌<◌}
 use native.Mathlib.Nat.{mul-le-mul}
 use native.Mathlib.Omega.{arith}
-use lib.ListN.{length, get_or}
-use Rattle.capture.specs.Calls.{captured}
-use Rattle.lists.specs.Lists.{zip}
+use lib.ListN.{get_or}
 use Rattle.lists.proofs.Pairs.{tables_fit}
-use Rattle.audit.proofs.Calls.{table_bounds, Listing, listing_next, listing_found, listing_over}
+use Rattle.audit.proofs.Calls.{table_bounds, listing_next, listing_found, listing_over}
 use Rattle.audit.proofs.table.listed_tables.Goals as goal
 
 pub loop-i-init : goal.loop-i-init

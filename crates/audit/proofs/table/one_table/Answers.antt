@@ -1,12 +1,8 @@
 -- `one_table` meets its contract: finding 1, then 2, then what the entries say.
 -- Assumes nothing.
-use borrow.Author.Rules.{rules}
-use borrow.Author.Tests.{not-true, not-false}
 use mathlib.Core.Path.{◌≡◌, sym, ◌∙◌}
 use mathlib.Core.Bool.{true}
-use Prim.Native.Nat.{◌+◌, ◌*◌, ◌^◌, ◌≤◌, ◌<◌}
-use native.Mathlib.Omega.{arith}
-use lib.Pow.{pow_mono}
+use Prim.Native.Nat.{◌^◌}
 use Rattle.capture.specs.Calls.{captured}
 use Rattle.audit.specs.Audit.{each_entry}
 use Rattle.audit.specs.Calls.{is_clean, entry_lies}

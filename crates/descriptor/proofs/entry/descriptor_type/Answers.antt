@@ -2,7 +2,6 @@
 -- Assumes nothing.
 use Rattle.bits.proofs.Tests.{choices}
 use Rattle.descriptor.specs.Entry.{descriptor_type}
-use borrow.Author.Rules.{rules}
 use Rattle.descriptor.proofs.entry.descriptor_type.Goals as goal
 
 pub returns-then-n-eq0 : goal.returns-then-n-eq0

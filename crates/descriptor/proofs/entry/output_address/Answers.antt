@@ -3,12 +3,11 @@
 use Prim.Native.Nat.{ℕ, ◌+◌, ◌-◌, ◌^◌, ◌<◌}
 use native.Mathlib.Nat.{le_of_lt}
 use native.Mathlib.Omega.{arith}
-use lib.Pow.{pow_pos, pow_mono}
+use lib.Pow.{pow_mono}
 use lib.Bits.{bit_and, and_mask}
 use Rattle.bits.specs.Bits.{upper}
 use Rattle.bits.proofs.Shifts.{one_shl, joined_fits}
 use Rattle.descriptor.proofs.Masks.{and_table}
-use borrow.Author.Rules.{rules}
 use Rattle.descriptor.proofs.entry.output_address.Goals as goal
 
 -- whichever word the low bits are of: it is the value that tells

@@ -2,7 +2,6 @@
 -- Assumes nothing.
 use Rattle.bits.proofs.Tests.{choices}
 use Rattle.descriptor.specs.Permission.{stage1_permits}
-use borrow.Author.Rules.{rules}
 use Rattle.descriptor.proofs.permission.stage1_permits.Goals as goal
 
 pub returns-then-is_read : goal.returns-then-is_read

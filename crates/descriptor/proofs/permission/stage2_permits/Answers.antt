@@ -2,7 +2,6 @@
 -- Assumes nothing.
 use Rattle.bits.proofs.Tests.{choices}
 use Rattle.descriptor.specs.Permission.{stage2_permits}
-use borrow.Author.Rules.{rules}
 use Rattle.descriptor.proofs.permission.stage2_permits.Goals as goal
 
 pub returns-then-as_read : goal.returns-then-as_read

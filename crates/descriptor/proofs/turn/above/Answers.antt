@@ -4,7 +4,6 @@ use lib.Pow.{pow_mono}
 use Rattle.bits.proofs.Shifts.{one_shl}
 use Rattle.bits.proofs.Tests.{choices}
 use native.Mathlib.Omega.{arith}
-use borrow.Author.Rules.{rules}
 use Rattle.descriptor.proofs.turn.above.Goals as goal
 
 pub overflow_sub-result : goal.overflow_sub-result

@@ -1,11 +1,9 @@
 -- `turn::block` meets its contract.
 -- Assumes nothing.
 use Rattle.bits.specs.Bits.{pick}
-use Rattle.bits.proofs.Tests.{told}
 use Rattle.descriptor.specs.Entry.{descriptor_type, decode_as}
 use Rattle.descriptor.specs.Turn.{turn_of}
 use borrow.Author.Tests.{eq-eqb, ne_eqb, lt-leb, le-leb}
-use borrow.Author.Rules.{rules}
 use Rattle.descriptor.proofs.turn.block.Goals as goal
 
 pub returns-then-n-eq0 : goal.returns-then-n-eq0

@@ -1,7 +1,6 @@
 -- `turn::flagged` meets its contract.
 -- Assumes nothing.
 use Rattle.bits.proofs.Tests.{choices}
-use borrow.Author.Rules.{rules}
 use Rattle.descriptor.proofs.turn.flagged.Goals as goal
 
 pub returns-then-bit : goal.returns-then-bit

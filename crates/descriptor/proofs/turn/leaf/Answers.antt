@@ -2,7 +2,6 @@
 -- Assumes nothing.
 use Rattle.bits.proofs.Tests.{choices}
 use Rattle.descriptor.proofs.Turns.{settled_leaf}
-use borrow.Author.Rules.{rules}
 use Rattle.descriptor.proofs.turn.leaf.Goals as goal
 
 pub returns-then-outside : goal.returns-then-outside

@@ -1,10 +1,8 @@
 -- `turn::next_entry` meets its contract: the masks keep the table's address and the index.
 -- Assumes nothing.
-use Prim.Native.Nat.{◌/◌, ◌^◌}
 use native.Mathlib.Omega.{arith}
 use lib.Bits.{and_mask}
-use Rattle.descriptor.proofs.Masks.{and_table, index_small, upper_small}
-use borrow.Author.Rules.{rules}
+use Rattle.descriptor.proofs.Masks.{and_table}
 use Rattle.descriptor.proofs.turn.next_entry.Goals as goal
 
 pub returns : goal.returns

@@ -5,8 +5,7 @@ use Rattle.bits.proofs.Tests.{choices, told}
 use Rattle.descriptor.specs.Entry.{descriptor_type, decode_as}
 use Rattle.descriptor.specs.Turn.{turn_of}
 use Rattle.descriptor.proofs.Turns.{type_11}
-use borrow.Author.Tests.{not-true, not-false}
-use borrow.Author.Rules.{rules}
+use borrow.Author.Tests.{not-false}
 use Rattle.descriptor.proofs.turn.turn.Goals as goal
 
 pub returns-then-not-bit : goal.returns-then-not-bit

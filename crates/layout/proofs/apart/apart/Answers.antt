@@ -1,19 +1,7 @@
 -- `apart` meets its contract: banks in order share no byte, and else one that shares none with those after it leaves the verdict to them.
 -- Assumes nothing.
-use borrow.Author.Rules.{rules}
-use borrow.Author.Tests.{not-true, not-false}
-use mathlib.Core.Path.{◌≡◌, sym}
-use mathlib.Core.Bool.{Bool, true, ◌&&◌}
-use mathlib.Core.List.{List, map}
-use Prim.Native.Nat.{ℕ, ◌+◌, ◌-◌, ◌<◌}
-use Rattle.bits.proofs.Tests.{told}
-use Rattle.capture.specs.Capture.{part}
-use Rattle.capture.specs.Calls.{count_of}
-use Rattle.capture.specs.declared.Part.{Part}
 use Rattle.layout.specs.Elf as Elf
-use Rattle.layout.specs.Calls.{bank_by, banks_by, in_order}
-use Rattle.layout.proofs.Steps.{from, from_next, from_end, from_start}
-use Rattle.layout.proofs.InOrder.{in_order_apart}
+use Rattle.layout.proofs.Steps.{from_end}
 use Rattle.layout.proofs.apart.apart.Invariants.{step, ordered}
 use Rattle.layout.proofs.apart.apart.Goals as goal
 

@@ -1,19 +1,17 @@
 -- `ascend` meets its contract: a bank that ends by the next leaves the verdict to those from the next on.
 -- Assumes nothing.
-use borrow.Author.Rules.{rules}
-use borrow.Author.Tests.{ltb-true, ltb-false, not-true, not-false}
-use mathlib.Core.Path.{◌≡◌, refl, ap, ◌∙◌}
+use borrow.Author.Tests.{ltb-true, ltb-false}
+use mathlib.Core.Path.{◌≡◌, refl, ◌∙◌}
 use mathlib.Core.Bool.{Bool, true, false, ◌&&◌}
 use mathlib.Core.List.{List}
 use Prim.Native.Nat.{ℕ, ◌+◌, ◌-◌, ◌*◌, ◌≤◌, ◌<◌}
 use native.Mathlib.Omega.{arith}
 use lib.Dec.{leb, ltb}
 use lib.ListN.{get_or}
-use Rattle.bits.proofs.Tests.{told}
 use Rattle.capture.specs.Calls.{count_of}
 use Rattle.layout.specs.Elf as Elf
 use Rattle.layout.specs.Calls.{banks_by}
-use Rattle.layout.proofs.Steps.{from, from_next, from_end, from_start}
+use Rattle.layout.proofs.Steps.{from, from_next, from_end}
 use Rattle.layout.proofs.apart.ascend.Given as goal
 
 -- the banks from the one before i on decide

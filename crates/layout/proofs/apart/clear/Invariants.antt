@@ -1,7 +1,6 @@
 -- `clear` meets its contract: a bank that meets no byte of the range leaves the verdict to those after it.
 -- Assumes nothing.
-use borrow.Author.Rules.{rules}
-use mathlib.Core.Path.{◌≡◌, refl}
+use mathlib.Core.Path.{◌≡◌}
 use mathlib.Core.Bool.{Bool, not, ◌&&◌}
 use mathlib.Core.List.{List, map}
 use Prim.Native.Nat.{ℕ, ◌+◌, ◌-◌, ◌<◌}
@@ -10,7 +9,7 @@ use Rattle.capture.specs.Calls.{count_of}
 use Rattle.capture.specs.declared.Part.{Part}
 use Rattle.layout.specs.Elf as Elf
 use Rattle.layout.specs.Calls.{bank_by}
-use Rattle.layout.proofs.Steps.{from, from_next, from_end}
+use Rattle.layout.proofs.Steps.{from, from_next}
 use Rattle.layout.proofs.apart.clear.Given as goal
 
 module _ (total low high : ℕ) (words : List ℕ) (first : ℕ) where

@@ -1,17 +1,8 @@
 -- `in_order` meets its contract: a bank that stands past the one before it leaves the verdict to those after it.
 -- Assumes nothing.
-use borrow.Author.Rules.{rules}
 use borrow.Author.Tests.{le-leb, lt-leb}
-use mathlib.Core.Path.{◌≡◌}
-use mathlib.Core.Bool.{Bool, ◌&&◌}
-use mathlib.Core.List.{List, map}
-use Prim.Native.Nat.{ℕ, ◌+◌, ◌-◌, ◌<◌}
-use lib.Dec.{leb}
-use Rattle.capture.specs.Capture.{part}
-use Rattle.capture.specs.Calls.{count_of}
-use Rattle.capture.specs.declared.Part.{Part}
-use Rattle.layout.specs.Calls.{bank_by, banks_by, in_order}
-use Rattle.layout.proofs.Steps.{from, from_next, from_end, from_start}
+use Rattle.layout.specs.Calls.{in_order}
+use Rattle.layout.proofs.Steps.{from_end}
 use Rattle.layout.proofs.apart.in_order.Invariants.{step}
 use Rattle.layout.proofs.apart.in_order.Goals as goal
 

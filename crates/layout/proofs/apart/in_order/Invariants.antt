@@ -1,7 +1,5 @@
 -- `in_order` meets its contract: a bank that stands past the one before it leaves the verdict to those after it.
 -- Assumes nothing.
-use borrow.Author.Rules.{rules}
-use borrow.Author.Tests.{le-leb, lt-leb}
 use mathlib.Core.Path.{◌≡◌}
 use mathlib.Core.Bool.{Bool, ◌&&◌}
 use mathlib.Core.List.{List, map}
@@ -11,7 +9,7 @@ use Rattle.capture.specs.Capture.{part}
 use Rattle.capture.specs.Calls.{count_of}
 use Rattle.capture.specs.declared.Part.{Part}
 use Rattle.layout.specs.Calls.{bank_by, banks_by, in_order}
-use Rattle.layout.proofs.Steps.{from, from_next, from_end, from_start}
+use Rattle.layout.proofs.Steps.{from, from_next, from_start}
 use Rattle.layout.proofs.apart.in_order.Given as goal
 
 module _ (total : ℕ) (words : List ℕ) where

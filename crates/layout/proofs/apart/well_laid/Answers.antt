@@ -1,7 +1,5 @@
 -- `well_laid` meets its contract: its tests are those of the definition, in its order.
 -- Assumes nothing.
-use borrow.Author.Rules.{rules}
-use borrow.Author.Tests.{not-true, not-false}
 use Rattle.bits.proofs.Tests.{told}
 use Rattle.layout.specs.Elf as Elf
 use Rattle.layout.proofs.Steps.{from_start}

@@ -1,10 +1,7 @@
 -- `count_banks` meets its contract: after i turns the count is how many of the first i headers are banks, and the last of those is known.
 -- Assumes nothing.
-use borrow.Author.Rules.{rules}
 use mathlib.Core.Path.{sym, ◌∙◌}
-use Prim.Native.Nat.{◌-◌}
-use native.Mathlib.Omega.{arith}
-use Rattle.layout.proofs.Banks.{Counting, counting_start, counting_bank, counting_other, counting_done}
+use Rattle.layout.proofs.Banks.{counting_bank, counting_other, counting_done}
 use Rattle.layout.proofs.elf.count_banks.Goals as goal
 use Rattle.layout.proofs.elf.count_banks.Goals.{then-is_bank, else-is_bank}
 
@@ -14,8 +11,8 @@ loop-i-preserved c =
     let less = c.loop-i-test.true in
     let told = c.is_bank.ensures in
     elim c.if-is_bank.branch [
-      then-is_bank w ↦ rw (w.count-is, w.last-is) (counting_bank _ _ _ inv less (sym told ∙ w.if-is_bank.true) (c.requires _ less))
-    | else-is_bank w ↦ rw (w.count-is, w.last-is) (counting_other _ _ _ inv less (sym told ∙ w.if-is_bank.false))
+      | then-is_bank w ↦ rw (w.count-is, w.last-is) (counting_bank _ _ _ inv less (sym told ∙ w.if-is_bank.true) (c.requires _ less))
+      | else-is_bank w ↦ rw (w.count-is, w.last-is) (counting_other _ _ _ inv less (sym told ∙ w.if-is_bank.false))
     ]
 
 pub returns : goal.returns

@@ -1,6 +1,5 @@
 -- `eight` meets its contract.
 -- Assumes nothing.
-use borrow.Author.Rules.{rules}
 use mathlib.Core.Path.{◌∙◌}
 use Rattle.capture.proofs.Spelled.{eight}
 use Rattle.layout.proofs.elf.eight.Goals as goal

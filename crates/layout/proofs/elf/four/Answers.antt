@@ -1,6 +1,5 @@
 -- `four` meets its contract.
 -- Assumes nothing.
-use borrow.Author.Rules.{rules}
 use native.Mathlib.Omega.{arith}
 use Rattle.layout.proofs.Numbers.{four_bytes}
 use Rattle.layout.proofs.elf.four.Goals as goal

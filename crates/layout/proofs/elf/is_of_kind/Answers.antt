@@ -1,6 +1,5 @@
 -- `is_of_kind` meets its contract.
 -- Assumes nothing.
-use borrow.Author.Rules.{rules}
 use Rattle.layout.specs.Elf.{of_kind}
 use Rattle.layout.proofs.elf.is_of_kind.Goals as goal
 

@@ -1,6 +1,5 @@
 -- `one` meets its contract.
 -- Assumes nothing.
-use borrow.Author.Rules.{rules}
 use mathlib.Core.Path.{◌∙◌}
 use Rattle.layout.proofs.Numbers.{one_byte}
 use Rattle.layout.proofs.elf.one.Goals as goal

@@ -1,6 +1,5 @@
 -- `two` meets its contract: two bytes of at most 255 each.
 -- Assumes nothing.
-use borrow.Author.Rules.{rules}
 use native.Mathlib.Omega.{arith}
 use Rattle.layout.proofs.Numbers.{two_bytes}
 use Rattle.layout.proofs.elf.two.Goals as goal

@@ -1,11 +1,10 @@
 -- `write_banks` meets its contract: what is stored from the i-th header on is what is stored from the start.
 -- Assumes nothing.
-use borrow.Author.Rules.{rules}
 use mathlib.Core.Path.{sym, ◌∙◌}
-use Prim.Native.Nat.{◌+◌, ◌-◌, ◌≤◌}
+use Prim.Native.Nat.{◌+◌, ◌≤◌}
 use native.Mathlib.Omega.{arith}
 use lib.ListN.{length, length-set}
-use Rattle.layout.proofs.Banks.{Writing, writing_start, bank_fits, writing_bank, writing_other, writing_done}
+use Rattle.layout.proofs.Banks.{bank_fits, writing_bank, writing_other, writing_done}
 use Rattle.layout.proofs.elf.write_banks.Goals as goal
 use Rattle.layout.proofs.elf.write_banks.Goals.{then-is_bank, else-is_bank}
 
@@ -28,8 +27,8 @@ pub loop-i-preserved : goal.loop-i-preserved
 loop-i-preserved c =
     let told = c.is_bank.ensures in
     elim c.if-is_bank.branch [
-      then-is_bank w ↦ rw (w.words-is, w.k-is) (writing_bank _ _ _ c.loop-i.invariant _ c.loop-i-test.true (sym told ∙ w.if-is_bank.true) w.header_at-bank.ensures)
-    | else-is_bank w ↦ rw (w.words-is, w.k-is) (writing_other _ _ _ c.loop-i.invariant c.loop-i-test.true (sym told ∙ w.if-is_bank.false))
+      | then-is_bank w ↦ rw (w.words-is, w.k-is) (writing_bank _ _ _ c.loop-i.invariant _ c.loop-i-test.true (sym told ∙ w.if-is_bank.true) w.header_at-bank.ensures)
+      | else-is_bank w ↦ rw (w.words-is, w.k-is) (writing_other _ _ _ c.loop-i.invariant c.loop-i-test.true (sym told ∙ w.if-is_bank.false))
     ]
 
 pub returns : goal.returns

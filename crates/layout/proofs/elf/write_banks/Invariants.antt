@@ -1,12 +1,7 @@
 -- `write_banks` meets its contract: what is stored from the i-th header on is what is stored from the start.
 -- Assumes nothing.
-use borrow.Author.Rules.{rules}
-use mathlib.Core.Logic.{⊎_elim}
-use mathlib.Core.Path.{sym, ◌∙◌}
-use Prim.Native.Nat.{◌+◌, ◌-◌, ◌≤◌}
-use native.Mathlib.Omega.{arith}
-use lib.ListN.{length, length-set}
-use Rattle.layout.proofs.Banks.{Writing, writing_start, bank_fits, writing_bank, writing_other, writing_done}
+use Prim.Native.Nat.{◌-◌}
+use Rattle.layout.proofs.Banks.{Writing}
 use Rattle.layout.proofs.elf.write_banks.Given as goal
 
 abbrev pub invariant-loop-i : goal.invariant-loop-i

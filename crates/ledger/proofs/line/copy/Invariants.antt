@@ -1,10 +1,8 @@
 -- `copy` meets its contract: what is stored from a byte on is what is stored from the first.
 -- Assumes nothing.
-use borrow.Author.Rules.{rules}
 use Prim.Native.Nat.{◌-◌, ◌≤◌}
-use native.Mathlib.Omega.{arith}
 use lib.ListN.{length}
-use Rattle.ledger.proofs.Page.{Copying, copying_start, copying_next, copying_done}
+use Rattle.ledger.proofs.Page.{Copying}
 use Rattle.ledger.proofs.line.copy.Given as goal
 
 abbrev pub invariant-loop-i : goal.invariant-loop-i

@@ -1,6 +1,5 @@
 -- `put_field` meets its contract: a figure has at most twenty digits.
 -- Assumes nothing.
-use borrow.Author.Rules.{rules}
 use native.Mathlib.Omega.{arith}
 use Rattle.ledger.proofs.Digits.{decimal_most}
 use Rattle.ledger.proofs.Fields.{field_put}

@@ -1,6 +1,5 @@
 -- `put_line` meets its contract: the first figure before the others.
 -- Assumes nothing.
-use borrow.Author.Rules.{rules}
 use native.Mathlib.Omega.{arith}
 use Rattle.ledger.specs.Ledger.{ascii}
 use Rattle.ledger.proofs.Fields.{sorts_most, line_put}

@@ -2,8 +2,7 @@
 -- Assumes nothing.
 use borrow.Author.Rules.{rules}
 use native.Mathlib.Omega.{arith}
-use lib.ListN.{length-set}
-use Rattle.ledger.proofs.Digits.{Numbering, numbering_start, numbering_next, numbering_done}
+use Rattle.ledger.proofs.Digits.{numbering_start, numbering_next, numbering_done}
 use Rattle.ledger.proofs.line.put_number.Goals as goal
 
 pub loop-rest-init : goal.loop-rest-init

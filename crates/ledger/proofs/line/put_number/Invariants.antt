@@ -1,9 +1,6 @@
 -- `put_number` meets its contract: the digits still to be written are those of what is left of the number.
 -- Assumes nothing.
-use borrow.Author.Rules.{rules}
-use native.Mathlib.Omega.{arith}
-use lib.ListN.{length-set}
-use Rattle.ledger.proofs.Digits.{Numbering, numbering_start, numbering_next, numbering_done}
+use Rattle.ledger.proofs.Digits.{Numbering}
 use Rattle.ledger.proofs.line.put_number.Given as goal
 
 abbrev pub invariant-loop-rest : goal.invariant-loop-rest

@@ -1,6 +1,5 @@
 -- `put_sorts` meets its contract: the four fields, and that each has room before the one written last.
 -- Assumes nothing.
-use borrow.Author.Rules.{rules}
 use Rattle.ledger.specs.Ledger.{ascii}
 use Rattle.ledger.proofs.Fields.{sorts_put}
 use Rattle.ledger.proofs.line.put_sorts.Goals as goal

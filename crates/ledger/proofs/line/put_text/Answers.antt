@@ -1,6 +1,5 @@
 -- `put_text` meets its contract.
 -- Assumes nothing.
-use borrow.Author.Rules.{rules}
 use Rattle.ledger.proofs.Page.{put_sets}
 use Rattle.ledger.proofs.line.put_text.Goals as goal
 

@@ -1,6 +1,5 @@
 -- `write_line` meets its contract: what the page ends with is the line.
 -- Assumes nothing.
-use borrow.Author.Rules.{rules}
 use native.Mathlib.Omega.{arith}
 use Rattle.ledger.proofs.Fields.{tells_short, tells_written}
 use Rattle.ledger.proofs.line.write_line.Goals as goal

@@ -1,11 +1,8 @@
 -- `is_listed` meets its contract: what is not found at a pair is looked for among those after it.
 -- Assumes nothing.
-use borrow.Author.Rules.{rules}
 use mathlib.Core.Path.{refl, sym, ◌∙◌}
-use Prim.Native.Nat.{◌-◌}
-use lib.ListN.{length}
 use Rattle.lists.proofs.Pairs.{tables_fit}
-use Rattle.lists.proofs.Searches.{listed_scan, Searching, search_next, search_found, search_over}
+use Rattle.lists.proofs.Searches.{listed_scan, search_next, search_found, search_over}
 use Rattle.lists.proofs.search.is_listed.Goals as goal
 
 pub loop-i-init : goal.loop-i-init

@@ -1,11 +1,8 @@
 -- `touches` meets its contract: what is not found at a pair is looked for among those after it.
 -- Assumes nothing.
-use borrow.Author.Rules.{rules}
-use mathlib.Core.Path.{refl, sym, ◌∙◌}
 use Prim.Native.Nat.{◌-◌}
 use lib.ListN.{length}
-use Rattle.lists.proofs.Pairs.{grant_ends, grants_fit}
-use Rattle.lists.proofs.Searches.{touches_scan, Searching, search_next, search_found, search_over}
+use Rattle.lists.proofs.Searches.{touches_scan, Searching}
 use Rattle.lists.proofs.search.touches.Given as goal
 
 abbrev pub invariant-loop-i : goal.invariant-loop-i

@@ -1,6 +1,5 @@
 -- `access` meets its contract: it begins, or it stops at once.
 -- Assumes nothing.
-use borrow.Author.Rules.{rules}
 use mathlib.Core.Path.{sym, ◌∙◌}
 use native.Mathlib.Omega.{arith}
 use Rattle.stages.proofs.Openings.{opens_stopped}

@@ -1,6 +1,5 @@
 -- `attributes1` meets its contract, by those of what it calls.
 -- Assumes nothing.
-use borrow.Author.Rules.{rules}
 use Rattle.bits.specs.Bits.{pick}
 use Rattle.stages.proofs.both.attributes1.Goals as goal
 

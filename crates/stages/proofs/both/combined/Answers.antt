@@ -1,6 +1,5 @@
 -- `combined` meets its contract, by those of what it calls.
 -- Assumes nothing.
-use borrow.Author.Rules.{rules}
 use Rattle.bits.specs.Bits.{pick}
 use Rattle.stages.proofs.both.combined.Goals as goal
 

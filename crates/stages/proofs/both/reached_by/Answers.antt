@@ -1,6 +1,5 @@
 -- `reached_by` meets its contract, by what ended the access.
 -- Assumes nothing.
-use borrow.Author.Rules.{rules}
 use mathlib.Core.Path.{sym, ◌∙◌}
 use Rattle.walk.proofs.Ends.{outcome_passed, outcome_stopped}
 use Rattle.stages.specs.Calls.{outcome_of, arrived}

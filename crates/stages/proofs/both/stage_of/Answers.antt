@@ -1,6 +1,5 @@
 -- `stage_of` meets its contract, by whose end it is.
 -- Assumes nothing.
-use borrow.Author.Rules.{rules}
 use Rattle.stages.specs.Calls.{stage_by}
 use Rattle.stages.proofs.both.stage_of.Goals as goal
 

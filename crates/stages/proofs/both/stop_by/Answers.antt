@@ -1,6 +1,5 @@
 -- `stop_by` meets its contract, by what ended it.
 -- Assumes nothing.
-use borrow.Author.Rules.{rules}
 use Rattle.walk.specs.Ends.{stop_by}
 use Rattle.stages.proofs.both.stop_by.Goals as goal
 

@@ -1,6 +1,5 @@
 -- `uncached2` meets its contract.
 -- Assumes nothing.
-use borrow.Author.Rules.{rules}
 use Rattle.bits.specs.Bits.{pick}
 use Rattle.stages.proofs.both.uncached2.Goals as goal
 

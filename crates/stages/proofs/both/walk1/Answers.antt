@@ -1,25 +1,18 @@
 -- `walk1` meets its contract: whatever finishes the access from where it stands finishes the whole.
 -- Assumes nothing.
-use borrow.Author.Rules.{rules}
-use borrow.Author.Tests.{not-true, not-false}
 use mathlib.Core.Path.{◌≡◌, refl, sym, ◌∙◌}
-use mathlib.Core.Logic.{⊎_elim}
 use Prim.Native.Nat.{suc, ◌+◌, ◌*◌, ◌≤◌, ◌<◌}
 use native.Mathlib.Nat.{le_refl, mul-le-mul}
 use native.Mathlib.Omega.{arith}
-use lib.ListN.{length}
 use Rattle.bits.specs.Bits.{pick}
 use Rattle.reads.specs.Program.{stage_1}
-use Rattle.reads.proofs.Ran.{ran_length}
 use Rattle.descriptor.specs.Entry.{shift}
 use Rattle.descriptor.proofs.Turns.{down_more}
 use Rattle.capture.specs.Calls.{captured}
 use Rattle.capture.proofs.Logs.{log_kept, log_set}
-use Rattle.walk.specs.Ends.{passed}
 use Rattle.walk.specs.Calls.{Fit, stage2_of}
 use Rattle.walk.proofs.Turns.{is_down}
-use Rattle.stages.specs.Calls.{stage1_of}
-use Rattle.stages.proofs.Calls.{Placed, seconded_on, seconded_off, placed_on, placed_off, Going, going_few, going_same, going_ends, going_stops, going_on, going_entry, going_absent, going_down, going_leaf, going_over}
+use Rattle.stages.proofs.Calls.{Placed, seconded_on, seconded_off, placed_on, placed_off, going_few, going_ends, going_stops, going_on, going_entry, going_absent, going_down, going_leaf, going_over}
 use Rattle.stages.proofs.Openings.{opens_fit, opens_within, opens_going}
 use Rattle.stages.proofs.both.walk1.Goals as goal
 use Rattle.stages.proofs.both.walk1.Goals.{then-on+else-not-passed+else-not-walking, else-on+else-not-walking-2}
@@ -39,11 +32,10 @@ returns-then-not-passed c =
     ))
 
 pub returns-then-not-walking : goal.returns-then-not-walking
-returns-then-not-walking c =
-    (
-      going_ends c.loop-log.invariant (seconded_on _ _ _ _ c.if-on.true _ _ c.translate2-r.ensures.0) c.if-not-walking.true,
-      omega (arith, c.translate2-r.ensures.1, going_few c.loop-log.invariant),
-    )
+returns-then-not-walking c = (
+  going_ends c.loop-log.invariant (seconded_on _ _ _ _ c.if-on.true _ _ c.translate2-r.ensures.0) c.if-not-walking.true,
+  omega (arith, c.translate2-r.ensures.1, going_few c.loop-log.invariant),
+)
 
 pub returns-then-not-walking-2 : goal.returns-then-not-walking-2
 returns-then-not-walking-2 c =
@@ -58,8 +50,8 @@ returns-in-Absent c =
     let placed : (let x = c.args in
     let l = c.loop-log in
     Placed (captured x.front x.parts.now x.file.now) (stage2_of x.q) x.a l.walking l.ipa l.log l.k c.if-on.at c.if-on.k c.if-on.log) = elim c.if-on.branch [
-      then-on+else-not-passed+else-not-walking w ↦ rw (w.log-is, w.k-is, w.at-is) (placed_on c.loop-log.invariant (seconded_on _ _ _ _ w.if-on.true _ _ w.translate2-r.ensures.0) (sym w.passed.ensures ∙ w.if-not-passed.false) w.if-not-walking.false w.translate2-r.ensures.1)
-    | else-on+else-not-walking-2 w ↦ rw (w.log-is, w.k-is, w.at-is) (placed_off _ _ _ _ w.if-on.false w.if-not-walking-2.false)
+      | then-on+else-not-passed+else-not-walking w ↦ rw (w.log-is, w.k-is, w.at-is) (placed_on c.loop-log.invariant (seconded_on _ _ _ _ w.if-on.true _ _ w.translate2-r.ensures.0) (sym w.passed.ensures ∙ w.if-not-passed.false) w.if-not-walking.false w.translate2-r.ensures.1)
+      | else-on+else-not-walking-2 w ↦ rw (w.log-is, w.k-is, w.at-is) (placed_off _ _ _ _ w.if-on.false w.if-not-walking-2.false)
     ] in
     let entry : (let l = c.loop-log in let g = c.args.o.start.table.geometry in (l.left ≤ 3) × (l.shift ≡ shift g l.left) × (l.shift < 48) × (l.k + 5 * suc l.left ≤ 20)) = going_entry c.loop-log.invariant placed.walks in
     let few : (c.if-on.k ≤ 19) = omega (arith, placed.few, entry.3) in
@@ -72,8 +64,8 @@ turn-turn-requires c =
     let placed : (let x = c.args in
     let l = c.loop-log in
     Placed (captured x.front x.parts.now x.file.now) (stage2_of x.q) x.a l.walking l.ipa l.log l.k c.if-on.at c.if-on.k c.if-on.log) = elim c.if-on.branch [
-      then-on+else-not-passed+else-not-walking w ↦ rw (w.log-is, w.k-is, w.at-is) (placed_on c.loop-log.invariant (seconded_on _ _ _ _ w.if-on.true _ _ w.translate2-r.ensures.0) (sym w.passed.ensures ∙ w.if-not-passed.false) w.if-not-walking.false w.translate2-r.ensures.1)
-    | else-on+else-not-walking-2 w ↦ rw (w.log-is, w.k-is, w.at-is) (placed_off _ _ _ _ w.if-on.false w.if-not-walking-2.false)
+      | then-on+else-not-passed+else-not-walking w ↦ rw (w.log-is, w.k-is, w.at-is) (placed_on c.loop-log.invariant (seconded_on _ _ _ _ w.if-on.true _ _ w.translate2-r.ensures.0) (sym w.passed.ensures ∙ w.if-not-passed.false) w.if-not-walking.false w.translate2-r.ensures.1)
+      | else-on+else-not-walking-2 w ↦ rw (w.log-is, w.k-is, w.at-is) (placed_off _ _ _ _ w.if-on.false w.if-not-walking-2.false)
     ] in
     let fit : (Fit c.args.o.start) = (opens_fit _ _ _ c.requires.4 c.requires.5 (going_on c.loop-log.invariant placed.walks)).1 in
     let f = fit in (f.masks, f.small.block)
@@ -88,8 +80,8 @@ overflow_sub-shift c =
     let placed : (let x = c.args in
     let l = c.loop-log in
     Placed (captured x.front x.parts.now x.file.now) (stage2_of x.q) x.a l.walking l.ipa l.log l.k c.if-on.at c.if-on.k c.if-on.log) = elim c.if-on.branch [
-      then-on+else-not-passed+else-not-walking w ↦ rw (w.log-is, w.k-is, w.at-is) (placed_on c.loop-log.invariant (seconded_on _ _ _ _ w.if-on.true _ _ w.translate2-r.ensures.0) (sym w.passed.ensures ∙ w.if-not-passed.false) w.if-not-walking.false w.translate2-r.ensures.1)
-    | else-on+else-not-walking-2 w ↦ rw (w.log-is, w.k-is, w.at-is) (placed_off _ _ _ _ w.if-on.false w.if-not-walking-2.false)
+      | then-on+else-not-passed+else-not-walking w ↦ rw (w.log-is, w.k-is, w.at-is) (placed_on c.loop-log.invariant (seconded_on _ _ _ _ w.if-on.true _ _ w.translate2-r.ensures.0) (sym w.passed.ensures ∙ w.if-not-passed.false) w.if-not-walking.false w.translate2-r.ensures.1)
+      | else-on+else-not-walking-2 w ↦ rw (w.log-is, w.k-is, w.at-is) (placed_off _ _ _ _ w.if-on.false w.if-not-walking-2.false)
     ] in
     let entry : (let l = c.loop-log in let g = c.args.o.start.table.geometry in (l.left ≤ 3) × (l.shift ≡ shift g l.left) × (l.shift < 48) × (l.k + 5 * suc l.left ≤ 20)) = going_entry c.loop-log.invariant placed.walks in
     let more : (0 < c.loop-log.left) = down_more _ _ _ (sym c.turn-turn.ensures ∙ is_down _ (sym c.leads_down.ensures ∙ c.if-leads_down.true)) in
@@ -102,8 +94,8 @@ next_entry-ipa-requires c =
     let placed : (let x = c.args in
     let l = c.loop-log in
     Placed (captured x.front x.parts.now x.file.now) (stage2_of x.q) x.a l.walking l.ipa l.log l.k c.if-on.at c.if-on.k c.if-on.log) = elim c.if-on.branch [
-      then-on+else-not-passed+else-not-walking w ↦ rw (w.log-is, w.k-is, w.at-is) (placed_on c.loop-log.invariant (seconded_on _ _ _ _ w.if-on.true _ _ w.translate2-r.ensures.0) (sym w.passed.ensures ∙ w.if-not-passed.false) w.if-not-walking.false w.translate2-r.ensures.1)
-    | else-on+else-not-walking-2 w ↦ rw (w.log-is, w.k-is, w.at-is) (placed_off _ _ _ _ w.if-on.false w.if-not-walking-2.false)
+      | then-on+else-not-passed+else-not-walking w ↦ rw (w.log-is, w.k-is, w.at-is) (placed_on c.loop-log.invariant (seconded_on _ _ _ _ w.if-on.true _ _ w.translate2-r.ensures.0) (sym w.passed.ensures ∙ w.if-not-passed.false) w.if-not-walking.false w.translate2-r.ensures.1)
+      | else-on+else-not-walking-2 w ↦ rw (w.log-is, w.k-is, w.at-is) (placed_off _ _ _ _ w.if-on.false w.if-not-walking-2.false)
     ] in
     let fit : (Fit c.args.o.start) = (opens_fit _ _ _ c.requires.4 c.requires.5 (going_on c.loop-log.invariant placed.walks)).1 in
     let entry : (let l = c.loop-log in let g = c.args.o.start.table.geometry in (l.left ≤ 3) × (l.shift ≡ shift g l.left) × (l.shift < 48) × (l.k + 5 * suc l.left ≤ 20)) = going_entry c.loop-log.invariant placed.walks in
@@ -116,8 +108,8 @@ loop-log-smaller-then-leads_down c =
     let placed : (let x = c.args in
     let l = c.loop-log in
     Placed (captured x.front x.parts.now x.file.now) (stage2_of x.q) x.a l.walking l.ipa l.log l.k c.if-on.at c.if-on.k c.if-on.log) = elim c.if-on.branch [
-      then-on+else-not-passed+else-not-walking w ↦ rw (w.log-is, w.k-is, w.at-is) (placed_on c.loop-log.invariant (seconded_on _ _ _ _ w.if-on.true _ _ w.translate2-r.ensures.0) (sym w.passed.ensures ∙ w.if-not-passed.false) w.if-not-walking.false w.translate2-r.ensures.1)
-    | else-on+else-not-walking-2 w ↦ rw (w.log-is, w.k-is, w.at-is) (placed_off _ _ _ _ w.if-on.false w.if-not-walking-2.false)
+      | then-on+else-not-passed+else-not-walking w ↦ rw (w.log-is, w.k-is, w.at-is) (placed_on c.loop-log.invariant (seconded_on _ _ _ _ w.if-on.true _ _ w.translate2-r.ensures.0) (sym w.passed.ensures ∙ w.if-not-passed.false) w.if-not-walking.false w.translate2-r.ensures.1)
+      | else-on+else-not-walking-2 w ↦ rw (w.log-is, w.k-is, w.at-is) (placed_off _ _ _ _ w.if-on.false w.if-not-walking-2.false)
     ] in
     let more : (0 < c.loop-log.left) = down_more _ _ _ (sym c.turn-turn.ensures ∙ is_down _ (sym c.leads_down.ensures ∙ c.if-leads_down.true)) in
     rw placed.walks (omega (arith, more))
@@ -127,8 +119,8 @@ loop-log-preserved-then-leads_down c =
     let placed : (let x = c.args in
     let l = c.loop-log in
     Placed (captured x.front x.parts.now x.file.now) (stage2_of x.q) x.a l.walking l.ipa l.log l.k c.if-on.at c.if-on.k c.if-on.log) = elim c.if-on.branch [
-      then-on+else-not-passed+else-not-walking w ↦ rw (w.log-is, w.k-is, w.at-is) (placed_on c.loop-log.invariant (seconded_on _ _ _ _ w.if-on.true _ _ w.translate2-r.ensures.0) (sym w.passed.ensures ∙ w.if-not-passed.false) w.if-not-walking.false w.translate2-r.ensures.1)
-    | else-on+else-not-walking-2 w ↦ rw (w.log-is, w.k-is, w.at-is) (placed_off _ _ _ _ w.if-on.false w.if-not-walking-2.false)
+      | then-on+else-not-passed+else-not-walking w ↦ rw (w.log-is, w.k-is, w.at-is) (placed_on c.loop-log.invariant (seconded_on _ _ _ _ w.if-on.true _ _ w.translate2-r.ensures.0) (sym w.passed.ensures ∙ w.if-not-passed.false) w.if-not-walking.false w.translate2-r.ensures.1)
+      | else-on+else-not-walking-2 w ↦ rw (w.log-is, w.k-is, w.at-is) (placed_off _ _ _ _ w.if-on.false w.if-not-walking-2.false)
     ] in
     let more : (0 < c.loop-log.left) = down_more _ _ _ (sym c.turn-turn.ensures ∙ is_down _ (sym c.leads_down.ensures ∙ c.if-leads_down.true)) in
     rw (c.next_entry-ipa.ensures, log_set _ _ _ _ _ c.read_logged.ensures.1 c.in-Word.is)
@@ -143,8 +135,8 @@ returns-then-not-on c =
     let placed : (let x = c.args in
     let l = c.loop-log in
     Placed (captured x.front x.parts.now x.file.now) (stage2_of x.q) x.a l.walking l.ipa l.log l.k c.if-on.at c.if-on.k c.if-on.log) = elim c.if-on.branch [
-      then-on+else-not-passed+else-not-walking w ↦ rw (w.log-is, w.k-is, w.at-is) (placed_on c.loop-log.invariant (seconded_on _ _ _ _ w.if-on.true _ _ w.translate2-r.ensures.0) (sym w.passed.ensures ∙ w.if-not-passed.false) w.if-not-walking.false w.translate2-r.ensures.1)
-    | else-on+else-not-walking-2 w ↦ rw (w.log-is, w.k-is, w.at-is) (placed_off _ _ _ _ w.if-on.false w.if-not-walking-2.false)
+      | then-on+else-not-passed+else-not-walking w ↦ rw (w.log-is, w.k-is, w.at-is) (placed_on c.loop-log.invariant (seconded_on _ _ _ _ w.if-on.true _ _ w.translate2-r.ensures.0) (sym w.passed.ensures ∙ w.if-not-passed.false) w.if-not-walking.false w.translate2-r.ensures.1)
+      | else-on+else-not-walking-2 w ↦ rw (w.log-is, w.k-is, w.at-is) (placed_off _ _ _ _ w.if-on.false w.if-not-walking-2.false)
     ] in
     let off = c.if-not-on.true in
     let now = going_leaf c.loop-log.invariant placed (sym (c.read_logged.ensures.0 stage_1) ∙ c.in-Word.is)
@@ -160,8 +152,8 @@ loop-log-smaller c =
     let placed : (let x = c.args in
     let l = c.loop-log in
     Placed (captured x.front x.parts.now x.file.now) (stage2_of x.q) x.a l.walking l.ipa l.log l.k c.if-on.at c.if-on.k c.if-on.log) = elim c.if-on.branch [
-      then-on+else-not-passed+else-not-walking w ↦ rw (w.log-is, w.k-is, w.at-is) (placed_on c.loop-log.invariant (seconded_on _ _ _ _ w.if-on.true _ _ w.translate2-r.ensures.0) (sym w.passed.ensures ∙ w.if-not-passed.false) w.if-not-walking.false w.translate2-r.ensures.1)
-    | else-on+else-not-walking-2 w ↦ rw (w.log-is, w.k-is, w.at-is) (placed_off _ _ _ _ w.if-on.false w.if-not-walking-2.false)
+      | then-on+else-not-passed+else-not-walking w ↦ rw (w.log-is, w.k-is, w.at-is) (placed_on c.loop-log.invariant (seconded_on _ _ _ _ w.if-on.true _ _ w.translate2-r.ensures.0) (sym w.passed.ensures ∙ w.if-not-passed.false) w.if-not-walking.false w.translate2-r.ensures.1)
+      | else-on+else-not-walking-2 w ↦ rw (w.log-is, w.k-is, w.at-is) (placed_off _ _ _ _ w.if-on.false w.if-not-walking-2.false)
     ] in
     rw placed.walks (omega arith)
 
@@ -170,8 +162,8 @@ loop-log-preserved c =
     let placed : (let x = c.args in
     let l = c.loop-log in
     Placed (captured x.front x.parts.now x.file.now) (stage2_of x.q) x.a l.walking l.ipa l.log l.k c.if-on.at c.if-on.k c.if-on.log) = elim c.if-on.branch [
-      then-on+else-not-passed+else-not-walking w ↦ rw (w.log-is, w.k-is, w.at-is) (placed_on c.loop-log.invariant (seconded_on _ _ _ _ w.if-on.true _ _ w.translate2-r.ensures.0) (sym w.passed.ensures ∙ w.if-not-passed.false) w.if-not-walking.false w.translate2-r.ensures.1)
-    | else-on+else-not-walking-2 w ↦ rw (w.log-is, w.k-is, w.at-is) (placed_off _ _ _ _ w.if-on.false w.if-not-walking-2.false)
+      | then-on+else-not-passed+else-not-walking w ↦ rw (w.log-is, w.k-is, w.at-is) (placed_on c.loop-log.invariant (seconded_on _ _ _ _ w.if-on.true _ _ w.translate2-r.ensures.0) (sym w.passed.ensures ∙ w.if-not-passed.false) w.if-not-walking.false w.translate2-r.ensures.1)
+      | else-on+else-not-walking-2 w ↦ rw (w.log-is, w.k-is, w.at-is) (placed_off _ _ _ _ w.if-on.false w.if-not-walking-2.false)
     ] in
     rw (c.output_address-output.ensures, log_set _ _ _ _ _ c.read_logged.ensures.1 c.in-Word.is)
     (going_leaf c.loop-log.invariant placed (sym (c.read_logged.ensures.0 stage_1) ∙ c.in-Word.is)
@@ -183,8 +175,8 @@ returns-else-passed c =
     let placed : (let x = c.args in
     let l = c.loop-log in
     Placed (captured x.front x.parts.now x.file.now) (stage2_of x.q) x.a l.walking l.ipa l.log l.k c.if-on.at c.if-on.k c.if-on.log) = elim c.if-on.branch [
-      then-on+else-not-passed+else-not-walking w ↦ rw (w.log-is, w.k-is, w.at-is) (placed_on c.loop-log.invariant (seconded_on _ _ _ _ w.if-on.true _ _ w.translate2-r.ensures.0) (sym w.passed.ensures ∙ w.if-not-passed.false) w.if-not-walking.false w.translate2-r.ensures.1)
-    | else-on+else-not-walking-2 w ↦ rw (w.log-is, w.k-is, w.at-is) (placed_off _ _ _ _ w.if-on.false w.if-not-walking-2.false)
+      | then-on+else-not-passed+else-not-walking w ↦ rw (w.log-is, w.k-is, w.at-is) (placed_on c.loop-log.invariant (seconded_on _ _ _ _ w.if-on.true _ _ w.translate2-r.ensures.0) (sym w.passed.ensures ∙ w.if-not-passed.false) w.if-not-walking.false w.translate2-r.ensures.1)
+      | else-on+else-not-walking-2 w ↦ rw (w.log-is, w.k-is, w.at-is) (placed_off _ _ _ _ w.if-on.false w.if-not-walking-2.false)
     ] in
     let entry : (let l = c.loop-log in let g = c.args.o.start.table.geometry in (l.left ≤ 3) × (l.shift ≡ shift g l.left) × (l.shift < 48) × (l.k + 5 * suc l.left ≤ 20)) = going_entry c.loop-log.invariant placed.walks in
     let few : (c.if-on.k ≤ 19) = omega (arith, placed.few, entry.3) in

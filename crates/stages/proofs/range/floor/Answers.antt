@@ -1,7 +1,6 @@
 -- `floor` meets its contract: no address of ones has a bit at or past 64.
 -- Assumes nothing.
-use borrow.Author.Rules.{rules}
-use native.Mathlib.Nat.{zero-mul, mod-eq_of_lt, lt_of_le_of_lt, div-mul-le_self}
+use native.Mathlib.Nat.{zero-mul}
 use Rattle.bits.proofs.Shifts.{shifted_out}
 use Rattle.stages.proofs.Ranges.{ones_64}
 use Rattle.stages.proofs.range.floor.Goals as goal

@@ -1,6 +1,5 @@
 -- `in_pamax` meets its contract.
 -- Assumes nothing.
-use borrow.Author.Rules.{rules}
 use Rattle.bits.specs.Bits.{pick}
 use Rattle.stages.proofs.Ranges.{below_ceiling}
 use Rattle.stages.proofs.range.in_pamax.Goals as goal

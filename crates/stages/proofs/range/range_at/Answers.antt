@@ -1,6 +1,5 @@
 -- `range_at` meets its contract.
 -- Assumes nothing.
-use borrow.Author.Rules.{rules}
 use borrow.Author.Tests.{lt-ltb, le-ltb, le-leb, lt-leb}
 use Rattle.bits.specs.Bits.{pick}
 use Rattle.stages.specs.Ranges.{range_at}

@@ -1,6 +1,5 @@
 -- `within` meets its contract.
 -- Assumes nothing.
-use borrow.Author.Rules.{rules}
 use borrow.Author.Tests.{lt-ltb, le-ltb}
 use mathlib.Core.Path.{refl}
 use Rattle.bits.proofs.Tests.{then, else}

@@ -1,6 +1,5 @@
 -- `at_entry` meets its contract, by what the entry is.
 -- Assumes nothing.
-use borrow.Author.Rules.{rules}
 use Rattle.bits.specs.Bits.{pick}
 use Rattle.stages.proofs.stage1.at_entry.Goals as goal
 

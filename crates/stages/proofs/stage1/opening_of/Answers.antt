@@ -1,10 +1,8 @@
 -- `opening_of` meets its contract: from the start for the address, or with stage 1 off at its output.
 -- Assumes nothing.
-use borrow.Author.Rules.{rules}
-use mathlib.Core.Path.{refl}
 use Rattle.walk.proofs.Ends.{starts_within}
 use Rattle.stages.specs.Stage1.{root1_at}
-use Rattle.stages.specs.Calls.{walks, passes, stage1_of}
+use Rattle.stages.specs.Calls.{stage1_of}
 use Rattle.stages.proofs.stage1.opening_of.Goals as goal
 
 pub first_entry-requires : goal.first_entry-requires

@@ -1,6 +1,5 @@
 -- `start_at` meets its contract, by the range of the address.
 -- Assumes nothing.
-use borrow.Author.Rules.{rules}
 use mathlib.Core.Path.{◌≡◌, sym, ap, ◌∙◌}
 use Rattle.walk.specs.Ends.{faulted}
 use Rattle.stages.specs.Stage1.{root1_at}

@@ -1,6 +1,5 @@
 -- `check2` meets its contract, by the class of the leaf's memory.
 -- Assumes nothing.
-use borrow.Author.Rules.{rules}
 use mathlib.Core.Path.{◌≡◌, refl}
 use mathlib.Core.Bool.{Bool, true, false, not, ◌&&◌, ◌||◌}
 use Rattle.bits.specs.Bits.{pick}

@@ -1,6 +1,5 @@
 -- `translate2` meets its contract: beyond the input size, at a root that is of no use, or by its walk.
 -- Assumes nothing.
-use borrow.Author.Rules.{rules}
 use borrow.Author.Tests.{eq-eqb, ne_eqb}
 use mathlib.Core.Path.{◌≡◌, sym, ap, ◌∙◌}
 use mathlib.Core.Bool.{false, not}
