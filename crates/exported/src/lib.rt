@@ -1,6 +1,6 @@
 // The batch and the audit, each over a raw capture and over a core file, the list of a core file's banks and the ledger's line as calls on
-// numbers, structs of numbers and slices, for programs in C and Rust; and all answers in numbers.
-// The questions are in `exported_question` and `exported_core_question`. include/humpelkaas.h declares all of them for C.
+// numbers, structs of numbers and slices; and all answers in numbers.
+// `exported_c` is these calls for programs in C and Rust. The questions are in `exported_question` and `exported_core_question`.
 #![tactic(auto)]
 
 ghost use Rattle.std.specs.Prelude.{◌≡◌, ◌≤◌};
@@ -295,8 +295,7 @@ fn batch_in_words(a: BatchAnswer) -> BatchWords
 }
 
 // The batch. Both written lists are as long as the list of addresses, at most 4,096 words.
-#[unsafe(no_mangle)]
-pub extern "C" fn humpelkaas_batch(
+pub fn humpelkaas_batch(
     bytes: &[u8],
     base: u64,
     r: El2,
@@ -318,8 +317,7 @@ pub extern "C" fn humpelkaas_batch(
 }
 
 // The batch over a core file, by its bytes.
-#[unsafe(no_mangle)]
-pub extern "C" fn humpelkaas_core_batch(
+pub fn humpelkaas_core_batch(
     file: &[u8],
     r: El2,
     g: El1,
@@ -370,8 +368,7 @@ fn audit_in_words(a: AuditAnswer) -> AuditWords
 }
 
 // The audit. Grants are pairs of an address and a byte count, at most 256; tables of an address and a level, at most 1,024.
-#[unsafe(no_mangle)]
-pub extern "C" fn humpelkaas_audit(
+pub fn humpelkaas_audit(
     bytes: &[u8],
     base: u64,
     r: El2,
@@ -386,8 +383,7 @@ pub extern "C" fn humpelkaas_audit(
 }
 
 // The audit over a core file, by its bytes.
-#[unsafe(no_mangle)]
-pub extern "C" fn humpelkaas_core_audit(
+pub fn humpelkaas_core_audit(
     file: &[u8],
     r: El2,
     grants: &[u64],
@@ -419,8 +415,7 @@ fn banks_in_words(a: BanksAnswer) -> BanksWords
 }
 
 // The banks of a core file. Each list has at least 64 words, of which the first are written.
-#[unsafe(no_mangle)]
-pub extern "C" fn humpelkaas_core_banks(
+pub fn humpelkaas_core_banks(
     file: &[u8],
     addresses: &mut [u64],
     offsets: &mut [u64],
@@ -447,8 +442,7 @@ fn line_word(a: LineAnswer) -> u64
 }
 
 // The ledger's line, over the first bytes of a buffer.
-#[unsafe(no_mangle)]
-pub extern "C" fn humpelkaas_ledger_line(l: Ledger, buffer: &mut [u8]) -> u64
+pub fn humpelkaas_ledger_line(l: Ledger, buffer: &mut [u8]) -> u64
     ensures answered { result ≡ Numbers.line_word (line_into l buffer.old).answer }
     ensures written { buffer.new ≡ (line_into l buffer.old).buffer }
 {
