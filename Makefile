@@ -32,7 +32,7 @@ LIBRARY := target/lib/libhumpelkaas.a
 COMMAND := target/command/release/humpelkaas
 
 .PHONY: all library command install install-library uninstall sample test clean
-# The command needs the library, and rt and cargo use all cores by themselves.
+# The command needs the library, and rt and cargo use several cores by themselves.
 .NOTPARALLEL:
 
 all: library command
