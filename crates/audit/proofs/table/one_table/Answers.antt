@@ -17,8 +17,10 @@ returns-then-not-is_clean c =
 
 pub returns-then-touches : goal.returns-then-touches
 returns-then-touches c =
-    let whole : (let z = c.args in is_clean (each_entry (entry_lies (captured z.front z.parts.now z.file.now) z.table) (2 ^ z.j) z.table) ≡ true) = rw (← c.two_to-entries.ensures, ← c.entries_lie-lies.ensures) (sym c.is_clean.ensures ∙ c.if-not-is_clean.false) in
-    c.found.ensures ∙ table_touched _ _ _ _ _ _ _ whole (rw (← c.two_to-entries.ensures) (sym c.touches.ensures ∙ c.if-touches.true))
+    c.found.ensures
+    ∙ table_touched _ _ _ _ _ _ _
+    (rw (← c.two_to-entries.ensures, ← c.entries_lie-lies.ensures) (sym c.is_clean.ensures ∙ c.if-not-is_clean.false))
+    (rw (← c.two_to-entries.ensures) (sym c.touches.ensures ∙ c.if-touches.true))
 
 pub returns : goal.returns
 returns c =
