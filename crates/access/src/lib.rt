@@ -15,60 +15,69 @@ pub struct Access {
     pub size: u64,
 }
 
-pub fn is_read(a: Access) -> bool
-    ensures { result ≡ Accesses.is_read a }
-{
-    a.kind == 0
-}
+impl Access {
+    pub fn is_read(self) -> bool
+        ensures { result ≡ Accesses.is_read self }
+    {
+        self.kind == 0
+    }
 
-pub fn is_write(a: Access) -> bool
-    ensures { result ≡ Accesses.is_write a }
-{
-    a.kind == 1
-}
+    pub fn is_write(self) -> bool
+        ensures { result ≡ Accesses.is_write self }
+    {
+        self.kind == 1
+    }
 
-pub fn is_fetch(a: Access) -> bool
-    ensures { result ≡ Accesses.is_fetch a }
-{
-    a.kind == 2
-}
+    pub fn is_fetch(self) -> bool
+        ensures { result ≡ Accesses.is_fetch self }
+    {
+        self.kind == 2
+    }
 
-pub fn at_el0(a: Access) -> bool
-    ensures { result ≡ Accesses.at_el0 a }
-{
-    a.el == 0
+    pub fn at_el0(self) -> bool
+        ensures { result ≡ Accesses.at_el0 self }
+    {
+        self.el == 0
+    }
 }
 
 fn listed_size(size: u64) -> bool
     ensures { result ≡ Accesses.listed_size size }
 {
-    match size {
-        1 => true,
-        2 | 4 | 8 | 16 => true,
-        _ => false,
-    }
+    matches!(size, 1 | 2 | 4 | 8 | 16)
 }
 
 // The numbers of a question are of those that it may hold.
 pub fn listed(kind: u64, el: u64, size: u64) -> bool
     ensures { result ≡ Accesses.listed kind el size }
 {
-    (kind <= 2) & (el <= 1) & listed_size(size)
+    kind <= 2 && el <= 1 && listed_size(size)
 }
 
-// The bits that the address of a data access must not have: its size is a power of 2. A fetch may have any. One mask for all addresses of
-// a batch, in the place of a division for each.
-fn low_bits(a: Access) -> u64
-    requires { Accesses.listed_size a.size ≡ true }
-    ensures { result ≡ cond (Accesses.is_fetch a) 0 (a.size - 1) }
-{
-    if is_fetch(a) { 0 } else { a.size - 1 }
+// An access of a listed size: a power of 2.
+#[derive(Clone, Copy)]
+pub struct SizedAccess {
+    pub access: Access,
+    ghost sized: { Accesses.listed_size access.size ≡ true },
 }
 
-// A data access that is not a multiple of its size.
-pub fn unaligned(a: Access) -> bool
-    requires { Accesses.listed_size a.size ≡ true }
-    ensures { result ≡ Accesses.unaligned a }
-{
-    a.address & low_bits(a) != 0
+impl SizedAccess {
+    // The bits that the address of a data access must not have. A fetch may have any. One mask for all addresses of a batch, in the place of
+    // a division for each.
+    fn low_bits(self) -> u64
+        ensures { result ≡ cond (Accesses.is_fetch self.access) 0 (self.access.size - 1) }
+    {
+        if self.access.is_fetch() {
+            0
+        } else {
+            self.access.size - 1
+        }
+    }
+
+    // A data access that is not a multiple of its size.
+    pub fn unaligned(self) -> bool
+        ensures { result ≡ Accesses.unaligned self.access }
+    {
+        self.access.address & self.low_bits() != 0
+    }
 }

@@ -9,7 +9,7 @@ use lib.ListN.{length, drop, get_or, drop_of_length-le}
 use lib.Seq.{drop-cons}
 use Rattle.reads.specs.Program.{Request}
 use Rattle.reads.specs.Ran.{Ran}
-use Rattle.reads.specs.declared.Read.{Read}
+use Rattle.std.specs.Prelude.{Option}
 use Rattle.reads.proofs.Ran.{ran_length}
 use Rattle.access.specs.declared.Access.{Access}
 use Rattle.walk.specs.declared.stage2.Stage2.{Stage2}
@@ -19,7 +19,7 @@ use Rattle.stages.specs.declared.stage1.Stage1.{Stage1}
 use Rattle.stages.specs.declared.both.Arrival.{Arrival}
 use Rattle.accesses.specs.Calls.{no_arrival, logged_all, Ended}
 
-module _ (m : Request → Read) (s1 : Stage1) (s2 : Stage2) (to : ℕ → Access) (addresses log₀ : List ℕ) where
+module _ (m : Request → Option ℕ) (s1 : Stage1) (s2 : Stage2) (to : ℕ → Access) (addresses log₀ : List ℕ) where
   -- after i addresses
   pub record Runs (log : List ℕ) (last : Arrival) (i : ℕ) : Type 0 where
     pub few : i ≤ length addresses

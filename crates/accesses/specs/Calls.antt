@@ -1,9 +1,8 @@
 -- For the contract of code: each address of a list is answered.
 -- Assumes nothing.
-use Rattle.std.specs.Prelude.{◌≡◌, List, [], ◌∷◌, map, ℕ, ◌+◌, length, get_or}
+use Rattle.std.specs.Prelude.{◌≡◌, List, [], ◌∷◌, map, ℕ, ◌+◌, length, get_or, Option}
 use Rattle.std.proofs.lemmas.List.Edits.{sets}
 use Rattle.reads.specs.Program.{Request, run, reads}
-use Rattle.reads.specs.declared.Read.{Read}
 use Rattle.access.specs.declared.Access.{Access}
 use Rattle.walk.specs.Ends.{stopped_by}
 use Rattle.walk.specs.declared.end.Ending.TheVariants.{Unsettled}
@@ -20,7 +19,7 @@ use Rattle.answers.specs.Entries.{answer_of, output_of}
 abbrev pub no_arrival : Arrival
 no_arrival = record { by = First; end = stopped_by Unsettled 0 0; ipa = 0; left1 = 0; word1 = 0 }
 
-module _ (m : Request → Read) (s1 : Stage1) (s2 : Stage2) where
+module _ (m : Request → Option ℕ) (s1 : Stage1) (s2 : Stage2) where
   -- a log after an access: the addresses that it read over the first words
   abbrev pub logged : Access → (log : List ℕ) → List ℕ
   logged a log = sets log 0 (map (λ q. q.address) (reads m (access s1 s2 a)))

@@ -4,20 +4,19 @@
 ghost use Rattle.std.specs.Prelude.{◌≡◌, true, ◌≤◌, length};
 ghost use Rattle.bits.specs.Bits.{pick};
 ghost use Rattle.access.specs.Access.{listed_size};
-ghost use Rattle.capture.specs.Calls.{captured, Held};
 ghost use Rattle.walk.specs.Ends.{passed};
-ghost use Rattle.walk.specs.Calls.{Sound2, stage2_of};
-ghost use Rattle.stages.specs.Calls.{Sound1, stage1_of};
+ghost use Rattle.walk.specs.Prepared.{stage2_of};
+ghost use Rattle.stages.specs.Prepared.{stage1_of};
 ghost use Rattle.accesses.specs.Calls.{Each};
 
-use access::Access;
-use capture::Front;
+use access::{Access, SizedAccess};
+use reads::Memory;
 use stages::both;
 use stages::both::{Arrival, By};
-use stages::stage1::Prepared1;
+use stages::prepared::Prepared1;
 use walk::end;
 use walk::end::{End, Ending};
-use walk::stage2::Prepared2;
+use walk::prepared::Prepared2;
 
 // The output address, or 0 for an address that is not translated.
 fn output_of(e: End) -> u64
@@ -30,10 +29,8 @@ fn output_of(e: End) -> u64
 
 // Answers each address: the number of its answer, and its output. Gives how the last access ended: where nothing is asked of an end but
 // its number and its output, the compiler makes all ways to end an access into one, and the loop slower.
-pub fn each(
-    file: &[u8],
-    front: Front,
-    parts: &[u64],
+pub fn each<M: Memory>(
+    memory: &M,
     p: Prepared1,
     q: Prepared2,
     kind: u64,
@@ -44,8 +41,8 @@ pub fn each(
     numbers: &mut [u64],
     log: &mut [u64],
 ) -> Arrival
-    requires { Sound1 p × Sound2 q × (listed_size size ≡ true) × Held front parts.now file.now × (24 ≤ length log.old) × (length outputs.old ≡ length addresses.now) × (length numbers.old ≡ length addresses.now) }
-    ensures { Each (captured front parts.now file.now) (stage1_of p) (stage2_of q) (λ x. record { address = x; kind = kind; el = el; size = size }) addresses.now log.old result outputs.new numbers.new log.new }
+    requires { (listed_size size ≡ true) × (24 ≤ length log.old) × (length outputs.old ≡ length addresses.now) × (length numbers.old ≡ length addresses.now) }
+    ensures { Each (M.finds memory.now) (stage1_of p) (stage2_of q) (λ x. record { address = x; kind = kind; el = el; size = size }) addresses.now log.old result outputs.new numbers.new log.new }
 {
     let mut last = Arrival {
         by: By::First,
@@ -54,20 +51,19 @@ pub fn each(
         left1: 0,
         word1: 0,
     };
-    let mut i = 0;
-    while i < addresses.len() {
-        let a = Access {
-            address: addresses[i],
-            kind,
-            el,
-            size,
+    for (i, address) in addresses.iter().enumerate() {
+        let a = SizedAccess {
+            access: Access {
+                address: *address,
+                kind,
+                el,
+                size,
+            },
         };
-        last = both::access(file, front, parts, p, q, a, log);
+        last = both::access(memory, p, q, a, log);
         let end = last.end;
-        let ending = end.ending;
         outputs[i] = output_of(end);
-        numbers[i] = answers::ending_number(ending);
-        i += 1;
+        numbers[i] = answers::ending_number(end.ending);
     }
     last
 }

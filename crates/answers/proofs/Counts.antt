@@ -14,7 +14,7 @@ use Rattle.bits.specs.Bits.{pick}
 use Rattle.reads.specs.Program.{Request, Outcome, reached, stopped, run}
 use Rattle.access.specs.declared.Access.{Access}
 use Rattle.descriptor.specs.declared.entry.Geometry.{Geometry}
-use Rattle.reads.specs.declared.Read.{Read}
+use Rattle.std.specs.Prelude.{Option, Ok, Err}
 use Rattle.bits.proofs.Tests.{by_pick, pick_true, pick_false}
 use Rattle.reads.proofs.Tally.{Tally, Tight, AllThree}
 use Rattle.capture.specs.Capture.{any_high}
@@ -22,15 +22,14 @@ use Rattle.layout.specs.Layout.{Form, layout, captured}
 use Rattle.walk.specs.Walk.{Reading}
 use Rattle.stages.specs.Stage1.{is_upper, root1_at}
 use Rattle.stages.specs.Stages.{access}
+use Rattle.answers.specs.Refusals.{Verdict, accepts}
 use Rattle.answers.specs.Answers.{answer}
 use Rattle.answers.specs.declared.Refusal.{Refusal}
-use Rattle.answers.specs.declared.Verdict.{Verdict}
 use Rattle.walk.specs.declared.stop.Stop.{Stop}
 use Rattle.walk.specs.declared.stop.Stop.TheVariants as S
 use Rattle.stages.specs.declared.both.Translation.{Translation}
-use Rattle.answers.specs.declared.Answer.TheVariants.{Translated, Refused}
-use Rattle.walk.specs.declared.table.Root.{Root}
-use Rattle.walk.specs.declared.table.Root.TheVariants.{Unusable, Usable}
+use Rattle.answers.specs.declared.Answer.TheVariants.{Translated}
+use Rattle.walk.specs.Root.{Root}
 use Rattle.walk.proofs.Counts.{HasLevels}
 use Rattle.stages.proofs.Counts.{tight_access}
 use Rattle.registers.specs.Tcr
@@ -47,6 +46,7 @@ use Rattle.regime.proofs.Settings.{lower_sized, upper_sized}
 use Rattle.regime.proofs.Roots.{start1_is, start2_most, by_range, by_root1_at, by_root2, Sane, root2_sane}
 use Rattle.answers.specs.Question.{grounds, refusal, turned_away, told, ask_over, ask}
 use Rattle.answers.specs.Counts.{levels_from, range_levels, n1, n2, limit, Counted, Counts}
+use Rattle.answers.proofs.Tried.{same_ok}
 use Rattle.answers.proofs.Refusals.{refuse_refused, refuse_accepted, holds_for, is_settings, is_high, none_holds}
 
 -- ---- levels
@@ -57,13 +57,13 @@ levels_from_lem z l h e = subst (λ y. (suc (levels_below y) ≡ levels_from y) 
 
 -- a root's levels, none where it is unusable
 levels_of : Root → ℕ
-levels_of (Unusable kind level) = 0
-levels_of (Usable t) = t.levels
+levels_of (Err u) = 0
+levels_of (Ok t) = t.levels
 
 has_levels : (root : Root) → HasLevels (levels_of root) root
 unfolding levels_of
-has_levels (Unusable kind level) = tt
-has_levels (Usable t) = refl
+has_levels (Err u) = tt
+has_levels (Ok t) = refl
 
 -- ---- stage 2
 
@@ -74,8 +74,8 @@ root2_levels r l e =
 
 few_levels : (root : Root) → Sane root → levels_of root ≤ 4
 unfolding levels_of
-few_levels (Unusable kind level) h = omega arith
-few_levels (Usable t) h = h.1
+few_levels (Err u) h = omega arith
+few_levels (Ok t) h = h.1
 
 root2_few : (r : El2) → levels_of (root2 r) ≤ 4
 root2_few r = few_levels (root2 r) (root2_sane r)
@@ -119,7 +119,7 @@ n1_few r g a accepted = by_pick (λ n. n ≤ 4) (stage1_on r g) _ 0 (λ on. root
 -- ---- the access
 
 -- with k levels in stage 2's root
-access_tight : (m : Request → Read) (r : El2) (g : El1) (a : Access) (k : ℕ) → settings r g ≡ 0 → HasLevels k (root2 r) →
+access_tight : (m : Request → Option ℕ) (r : El2) (g : El1) (a : Access) (k : ℕ) → settings r g ≡ 0 → HasLevels k (root2 r) →
     Tight m (n1 r g a.address * suc (pick (stage2_on r) k 0) + pick (stage2_on r) k 0) (access (stage1 r g) (stage2 r) a)
 unfolding stage1 stage2
 access_tight m r g a k accepted levels = by_test (stage1_on r g) refl
@@ -150,12 +150,12 @@ exact_of c (stopped (S.Misaligned s)) k l h to n e = absurd (let z : ◌≡◌ {
 exact_of c (stopped (S.Absent a)) k l h to n e = absurd (let z : ◌≡◌ {A = ℕ} 0 1 = cc in omega arith)
 exact_of c (stopped (S.Unsettled o)) k l h to n e = absurd (let z : ◌≡◌ {A = ℕ} 0 1 = cc in omega arith)
 
-counted_of : (m : Request → Read) (log : List ℕ) (p : Reading Translation) (c : ℕ) → Tight m c p → Counted c (told m log p)
+counted_of : (m : Request → Option ℕ) (log : List ℕ) (p : Reading Translation) (c : ℕ) → Tight m c p → Counted c (told m log p)
 unfolding told
-counted_of m log p c h = record { within = h.tally.most; exact = exact_of c (run m p) _ _ h.tally }
+counted_of m log p c h = record { within = h.tally.most; exact = λ to n e. exact_of c (run m p) _ _ h.tally to n (same_ok e) }
 
 module _ (form : Form) (file : List ℕ) (r : El2) (g : El1) (a : Access) (log : List ℕ) where
-  abbrev m : Request → Read
+  abbrev m : Request → Option ℕ
   m = captured form file
 
   abbrev pub p : Reading Translation
@@ -165,35 +165,35 @@ module _ (form : Form) (file : List ℕ) (r : El2) (g : El1) (a : Access) (log :
   why = refusal (length log) form file r g a
 
   -- without a refusal the settings are accepted, and the question is the access
-  accepted : why ≡ Verdict.Accepted → settings r g ≡ 0
+  accepted : why ≡ accepts → settings r g ≡ 0
   unfolding holds_for pick
   accepted e = eqb-true _ _ (not-false _ (none_holds is_settings (grounds (length log) (layout form file).unreadable (any_high (layout form file).banks) r g a) e))
 
   -- and no bank ends high
-  pub low : why ≡ Verdict.Accepted → any_high (layout form file).banks ≡ false
+  pub low : why ≡ accepts → any_high (layout form file).banks ≡ false
   unfolding holds_for pick
   low e = none_holds is_high (grounds (length log) (layout form file).unreadable (any_high (layout form file).banks) r g a) e
 
-  pub is_access : why ≡ Verdict.Accepted → ask form file r g a log ≡ told m log p
+  pub is_access : why ≡ accepts → ask form file r g a log ≡ told m log p
   unfolding ask ask_over
   is_access e = refuse_accepted _ _ _ e
 
-  pub is_refused : (w : Refusal) → why ≡ Verdict.Refused w → ask form file r g a log ≡ record { answer = Refused w; reads = []; log = log; ends = [] }
+  pub is_refused : (w : Refusal) → why ≡ Err w → ask form file r g a log ≡ record { answer = Err w; reads = []; log = log; ends = [] }
   unfolding ask ask_over turned_away
   is_refused w e = refuse_refused _ _ _ w e
 
-  tight : (k : ℕ) → HasLevels k (root2 r) → why ≡ Verdict.Accepted → Tight m (n1 r g a.address * suc (pick (stage2_on r) k 0) + pick (stage2_on r) k 0) p
+  tight : (k : ℕ) → HasLevels k (root2 r) → why ≡ accepts → Tight m (n1 r g a.address * suc (pick (stage2_on r) k 0) + pick (stage2_on r) k 0) p
   tight k levels e = access_tight m r g a k (accepted e) levels
 
   few : (v : Verdict) → why ≡ v → length (ask form file r g a log).reads ≤ 24
   unfolding told
-  few Verdict.Accepted e =
+  few (Ok tt) e =
       let h = tight (levels_of (root2 r)) (has_levels (root2 r)) e in
       let k = pick (stage2_on r) (levels_of (root2 r)) 0 in
       let small : k ≤ 4 = by_pick (λ n. n ≤ 4) (stage2_on r) _ 0 (λ _. root2_few r) (λ _. omega arith) in
       let bound : n1 r g a.address * (k + 1) + k ≤ 24 = at_most_24 _ k (n1_few r g a.address (accepted e)) small in
       rw (ap (λ t. t.reads) (is_access e)) (omega (arith, h.tally.most, rw add-one at bound))
-  few (Verdict.Refused w) e = rw (ap (λ t. t.reads) (is_refused w e)) (omega arith)
+  few (Err w) e = rw (ap (λ t. t.reads) (is_refused w e)) (omega arith)
 
   pub counts : Counts form file r g a log
   unfolding told

@@ -8,7 +8,7 @@ use lib.ListN.{length}
 use Rattle.bits.specs.Bits.{pick}
 use Rattle.reads.specs.Program.{Request, Outcome, reached, stopped, reads}
 use Rattle.reads.specs.Ran.{Ran}
-use Rattle.reads.specs.declared.Read.{Read}
+use Rattle.std.specs.Prelude.{Option, Ok}
 use Rattle.access.specs.declared.Access.{Access}
 use Rattle.walk.specs.Ends.{passed, stop_by, outcome}
 use Rattle.walk.specs.declared.stop.Stage.{Stage}
@@ -49,14 +49,14 @@ end_output n s t address level E.Misaligned = refl
 end_output n s t address level E.Absent = refl
 end_output n s t address level E.Unsettled = refl
 
-module _ (m : Request → Read) (s1 : Stage1) (s2 : Stage2) (a : Access) where
+module _ (m : Request → Option ℕ) (s1 : Stage1) (s2 : Stage2) (a : Access) where
   pub ran_answer : {log log' : List ℕ} {end : ℕ} {o : Outcome Stop Translation} {r : Answer} → Ran m (access s1 s2 a) log 0 o end log' → r ≡ answer end o → r ≡ answer_of m s1 s2 a
   unfolding answer_of told
   ran_answer {end} ran e =
       let count : end ≡ length (reads m (access s1 s2 a)) = omega (arith, ran.counted) in
       e ∙ ap₂ answer count ran.outcome
 
-  pub any_log : (log : List ℕ) → answer_of m s1 s2 a ≡ (told m log (access s1 s2 a)).answer
+  pub any_log : (log : List ℕ) → (told m log (access s1 s2 a)).answer ≡ Ok (answer_of m s1 s2 a)
   unfolding answer_of told
   any_log log = refl
 

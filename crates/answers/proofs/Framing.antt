@@ -6,7 +6,7 @@ use Prim.Native.Nat.{ℕ}
 use lib.ListN.{length}
 use Rattle.reads.specs.Program.{Request, All, reads}
 use Rattle.access.specs.declared.Access.{Access}
-use Rattle.reads.specs.declared.Read.{Read}
+use Rattle.std.specs.Prelude.{Option, Err, Ok}
 use Rattle.reads.proofs.Laws.{Same, frame, all_map}
 use Rattle.capture.specs.Capture.{memory, SameBytes}
 use Rattle.capture.specs.Calls.{Lies}
@@ -21,14 +21,13 @@ use Rattle.regime.specs.Roots.{stage1, stage2}
 use Rattle.stages.specs.declared.both.Translation.{Translation}
 use Rattle.registers.specs.declared.El1.{El1}
 use Rattle.registers.specs.declared.El2.{El2}
+use Rattle.answers.specs.Refusals.{Verdict}
 use Rattle.answers.specs.Question.{refusal, told, ask}
-use Rattle.answers.specs.declared.Verdict.{Verdict}
-use Rattle.answers.specs.declared.Verdict.TheVariants.{Accepted, Refused}
 use Rattle.answers.proofs.Counts.{is_access, is_refused, low}
 use Rattle.answers.specs.Framing.{Framing}
 
 -- the same run, reads and ends tell the same
-pub same_told : (m m' : Request → Read) (log : List ℕ) (p : Reading Translation) → Same m m' p → told m' log p ≡ told m log p
+pub same_told : (m m' : Request → Option ℕ) (log : List ℕ) (p : Reading Translation) → Same m m' p → told m' log p ≡ told m log p
 unfolding told
 same_told m m' log p s = rw (s.same_run, s.same_reads, s.same_ends)
 
@@ -42,14 +41,14 @@ module _ (form : Form) (file file' : List ℕ) (r : El2) (g : El1) (a : Access) 
   by_verdict : SameBounds form file file' → (v : Verdict) → refusal (length log) form file r g a ≡ v →
       All (λ q. SameBytes (parts_of form file) file file' q.address 8) (ask form file r g a log).reads → ask form file' r g a log ≡ ask form file r g a log
   unfolding told
-  by_verdict bounds Accepted e same =
+  by_verdict bounds (Ok tt) e same =
       is_access form file' r g a log (rw bounds.layout at e)
       ∙ subst (λ parts. told (memory parts file') log (access (stage1 r g) (stage2 r) a) ≡ told (captured form file) log (access (stage1 r g) (stage2 r) a))
       (same_parts form file file' bounds)
       (framed_access (parts_of form file) file file' _ log bounds.length (all_inside (length file) (layout form file).banks (low form file r g a log e))
       (rw (ap (λ t. t.reads) (is_access form file r g a log e)) at same))
       ∙ sym (is_access form file r g a log e)
-  by_verdict bounds (Refused why) e same = is_refused form file' r g a log why (rw bounds.layout at e) ∙ sym (is_refused form file r g a log why e)
+  by_verdict bounds (Err why) e same = is_refused form file' r g a log why (rw bounds.layout at e) ∙ sym (is_refused form file r g a log why e)
 
   pub framing : Framing form file file' r g a log
   framing = record { framed = λ bounds same. by_verdict bounds (refusal (length log) form file r g a) refl same }

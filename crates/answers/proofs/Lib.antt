@@ -3,3 +3,4 @@ pub mod Verdicts
 pub mod Counts
 pub mod Framing
 pub mod Entries
+pub mod Tried

@@ -1,5 +1,6 @@
 -- What a verdict says of a call, and of each ground.
 -- Assumes nothing.
+use Rattle.std.specs.Prelude.{Err}
 use mathlib.Core.Path.{◌≡◌, refl, sym, ap}
 use mathlib.Core.Bool.{Bool, true, false, true≢false, ◌&&◌}
 use mathlib.Core.List.{List, [], ◌∷◌}
@@ -11,20 +12,19 @@ use Rattle.bits.specs.Bits.{pick}
 use Rattle.bits.proofs.Tests.{by_pick}
 use Rattle.answers.specs.declared.Refusal.{Refusal}
 use Rattle.answers.specs.declared.Refusal.TheVariants.{ShortLog, HighCapture, Settings, Unlisted, BatchLists, AuditLists, NoRoot, CoreFile}
-use Rattle.answers.specs.declared.Verdict.TheVariants.{Accepted, Refused}
 use Rattle.registers.specs.declared.El1.{El1}
 use Rattle.registers.specs.declared.El2.{El2}
 use Rattle.access.specs.Access.{listed_size}
 use Rattle.settings.specs.Settings.{settings}
-use Rattle.answers.specs.Refusals.{Ground, refuse, verdict, shared}
+use Rattle.answers.specs.Refusals.{Ground, refuse, verdict, shared, accepts}
 
 -- a refusal decides
-pub refuse_refused : {A : Type 0} (f : Refusal → A) (l : List Ground) (x : A) (why : Refusal) → verdict l ≡ Refused why → refuse f l x ≡ f why
+pub refuse_refused : {A : Type 0} (f : Refusal → A) (l : List Ground) (x : A) (why : Refusal) → verdict l ≡ Err why → refuse f l x ≡ f why
 unfolding refuse pick
 refuse_refused f [] x why e = absurd (let z : ◌≡◌ {A = ℕ} 0 1 = cc in omega arith)
 refuse_refused f (g ∷ l) x why e = by_test g.holds e (refuse_refused f l x why)
   where
-    by_test : (b : Bool) → pick b (Refused g.refusal) (verdict l) ≡ Refused why → (verdict l ≡ Refused why → refuse f l x ≡ f why) →
+    by_test : (b : Bool) → pick b (Err g.refusal) (verdict l) ≡ Err why → (verdict l ≡ Err why → refuse f l x ≡ f why) →
         pick b (f g.refusal) (refuse f l x) ≡ f why
     by_test true h rest =
         let z : g.refusal ≡ why = cc in
@@ -32,12 +32,12 @@ refuse_refused f (g ∷ l) x why e = by_test g.holds e (refuse_refused f l x why
     by_test false h rest = rest h
 
 -- without one, the call goes on
-pub refuse_accepted : {A : Type 0} (f : Refusal → A) (l : List Ground) (x : A) → verdict l ≡ Accepted → refuse f l x ≡ x
+pub refuse_accepted : {A : Type 0} (f : Refusal → A) (l : List Ground) (x : A) → verdict l ≡ accepts → refuse f l x ≡ x
 unfolding refuse pick
 refuse_accepted f [] x e = refl
 refuse_accepted f (g ∷ l) x e = by_test g.holds e (refuse_accepted f l x)
   where
-    by_test : (b : Bool) → pick b (Refused g.refusal) (verdict l) ≡ Accepted → (verdict l ≡ Accepted → refuse f l x ≡ x) →
+    by_test : (b : Bool) → pick b (Err g.refusal) (verdict l) ≡ accepts → (verdict l ≡ accepts → refuse f l x ≡ x) →
         pick b (f g.refusal) (refuse f l x) ≡ x
     by_test true h rest = absurd (let z : ◌≡◌ {A = ℕ} 0 1 = cc in omega arith)
     by_test false h rest = rest h
@@ -96,12 +96,12 @@ is_no_root NoRoot = true
 is_no_root CoreFile = false
 
 -- an accepted call meets no ground
-pub none_holds : (f : Refusal → Bool) (l : List Ground) → verdict l ≡ Accepted → holds_for f l ≡ false
+pub none_holds : (f : Refusal → Bool) (l : List Ground) → verdict l ≡ accepts → holds_for f l ≡ false
 unfolding refuse holds_for pick
 none_holds f [] e = refl
 none_holds f (g ∷ l) e = by_tests g.holds (f g.refusal) e (none_holds f l)
   where
-    by_tests : (holds here : Bool) → pick holds (Refused g.refusal) (verdict l) ≡ Accepted → (verdict l ≡ Accepted → holds_for f l ≡ false) →
+    by_tests : (holds here : Bool) → pick holds (Err g.refusal) (verdict l) ≡ accepts → (verdict l ≡ accepts → holds_for f l ≡ false) →
         pick here holds (holds_for f l) ≡ false
     by_tests true here h rest = absurd (let z : ◌≡◌ {A = ℕ} 0 1 = cc in omega arith)
     by_tests false true h rest = refl
@@ -114,7 +114,7 @@ last_holds true false c e = absurd (true≢false (sym e))
 last_holds false b c e = absurd (true≢false (sym e))
 
 -- where what a question and a batch share does not refuse
-module _ (high : Bool) (r : El2) (g : El1) (kind el size : ℕ) (accepted : verdict (shared high r g kind el size) ≡ Accepted) where
+module _ (high : Bool) (r : El2) (g : El1) (kind el size : ℕ) (accepted : verdict (shared high r g kind el size) ≡ accepts) where
   -- the settings are accepted
   pub accepted_settings : settings r g ≡ 0
   unfolding holds_for pick

@@ -1,6 +1,6 @@
 -- The answer of an outcome, and the table of answers: each answer's number and the values it carries (01, Answer numbers).
 -- Assumes nothing.
-use Rattle.std.specs.Prelude.{Bool, false, List, [], ◌∷◌, map, ℕ}
+use Rattle.std.specs.Prelude.{Bool, false, List, [], ◌∷◌, map, ℕ, Err, Result, Ok}
 use Rattle.reads.specs.Program.{Outcome, reached, stopped}
 use Rattle.descriptor.specs.declared.entry.FaultKind.{FaultKind}
 use Rattle.descriptor.specs.declared.entry.FaultKind.TheVariants as F
@@ -43,13 +43,17 @@ refusal_number AuditLists = 15
 refusal_number NoRoot = 16
 refusal_number CoreFile = 17
 
+-- of a question that is answered, and of one that may be refused
 unfoldable pub number : Answer → ℕ
 number (A.Translated t n) = 0
 number (A.Fault f n) = fault_number f.kind
 number (A.Misaligned s n) = 5
 number (A.Absent m n) = 6
 number (A.Unsettled o n) = 7
-number (A.Refused r) = refusal_number r
+
+unfoldable pub number_of : Result Answer Refusal → ℕ
+number_of (Ok a) = number a
+number_of (Err why) = refusal_number why
 
 -- the number of an end in plain words, for the contracts of code
 abbrev pub ending_number : Ending → ℕ
@@ -106,4 +110,7 @@ carries (A.Fault f n) = stage (stage_number f.stage) ∷ level f.level ∷ on_wa
 carries (A.Misaligned s n) = stage (stage_number s) ∷ reads n ∷ ipa_of s
 carries (A.Absent m n) = address m.address ∷ stage (stage_number m.stage) ∷ level m.level ∷ on_walk (is_on_walk m.stage) ∷ reads n ∷ []
 carries (A.Unsettled o n) = stage (stage_number o.stage) ∷ level o.level ∷ on_walk (is_on_walk o.stage) ∷ reads n ∷ []
-carries (A.Refused r) = map item (item_of r)
+
+unfoldable pub carries_of : Result Answer Refusal → List Value
+carries_of (Ok a) = carries a
+carries_of (Err why) = map item (item_of why)

@@ -1,15 +1,15 @@
 -- Demand 3, the number of reads (01, Demand 3 in full). Proved in proofs/Counts.antt.
 -- Assumes nothing.
-use Rattle.std.specs.Prelude.{◌≡◌, Bool, true, false, List, [], ℕ, ◌+◌, ◌-◌, ◌*◌, ◌≤◌, ℤ, pos, negsuc, length}
+use Rattle.std.specs.Prelude.{◌≡◌, Bool, true, false, List, [], ℕ, ◌+◌, ◌-◌, ◌*◌, ◌≤◌, ℤ, pos, negsuc, length, Err, Ok}
 use Rattle.bits.specs.Bits.{pick}
 use Rattle.reads.specs.Program.{All}
 use Rattle.access.specs.declared.Access.{Access}
 use Rattle.layout.specs.Layout.{Form}
 use Rattle.stages.specs.Stage1.{is_upper}
+use Rattle.answers.specs.Refusals.{accepts}
 use Rattle.answers.specs.declared.Refusal.{Refusal}
-use Rattle.answers.specs.declared.Verdict.TheVariants as Verdict
 use Rattle.stages.specs.declared.both.Translation.{Translation}
-use Rattle.answers.specs.declared.Answer.TheVariants.{Translated, Refused}
+use Rattle.answers.specs.declared.Answer.TheVariants.{Translated}
 use Rattle.registers.specs.Tcr
 use Rattle.settings.specs.Settings.{stage1_on, stage2_on}
 use Rattle.descriptor.specs.declared.entry.Geometry.{Geometry}
@@ -50,17 +50,17 @@ AllAt3 = All (λ level. level ≡ 3)
 -- at most so many reads, and for a translated access just so many exactly when each of its walks ends at level 3
 pub record Counted (most : ℕ) (t : Told) : Type 0 where
   pub within : length t.reads ≤ most
-  pub exact : (to : Translation) (n : ℕ) → t.answer ≡ Translated to n → (length t.reads ≡ most → AllAt3 t.ends) × (AllAt3 t.ends → length t.reads ≡ most)
+  pub exact : (to : Translation) (n : ℕ) → t.answer ≡ Ok (Translated to n) → (length t.reads ≡ most → AllAt3 t.ends) × (AllAt3 t.ends → length t.reads ≡ most)
 
 -- every question that is not refused, with stage 2 on and its start at level 0 to 3
 pub record Counts (form : Form) (file : List ℕ) (r : El2) (g : El1) (a : Access) (log : List ℕ) : Type 0 where
-  pub counted : stage2_on r ≡ true → (l : ℕ) → start_level2 r ≡ pos l → refusal (length log) form file r g a ≡ Verdict.Accepted →
+  pub counted : stage2_on r ≡ true → (l : ℕ) → start_level2 r ≡ pos l → refusal (length log) form file r g a ≡ accepts →
       Counted (limit r g a.address) (ask form file r g a log) × (limit r g a.address ≤ 24)
   -- with stage 2 off, stage 1's own
-  pub alone : stage2_on r ≡ false → refusal (length log) form file r g a ≡ Verdict.Accepted →
+  pub alone : stage2_on r ≡ false → refusal (length log) form file r g a ≡ accepts →
       (length (ask form file r g a log).reads ≤ n1 r g a.address) × (n1 r g a.address ≤ 4)
   -- a refused question reads nothing, and keeps the log
-  pub refused : (why : Refusal) → refusal (length log) form file r g a ≡ Verdict.Refused why →
-      ask form file r g a log ≡ record { answer = Refused why; reads = []; log = log; ends = [] }
+  pub refused : (why : Refusal) → refusal (length log) form file r g a ≡ Err why →
+      ask form file r g a log ≡ record { answer = Err why; reads = []; log = log; ends = [] }
   -- so a log of 24 words always suffices
   pub suffices : length (ask form file r g a log).reads ≤ 24

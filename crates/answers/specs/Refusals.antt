@@ -1,6 +1,6 @@
 -- Refusals, tested in their order (01, Answer numbers).
 -- Assumes nothing.
-use Rattle.std.specs.Prelude.{Bool, not, List, [], ◌∷◌, ℕ, ltb, eqb}
+use Rattle.std.specs.Prelude.{Bool, not, List, [], ◌∷◌, ℕ, ltb, eqb, Ok, Err, Result}
 use Rattle.bits.specs.Bits.{pick}
 use Rattle.access.specs.Access.{listed}
 use Rattle.registers.specs.declared.El1.{El1}
@@ -8,7 +8,13 @@ use Rattle.registers.specs.declared.El2.{El2}
 use Rattle.settings.specs.Settings.{settings}
 use Rattle.answers.specs.declared.Refusal.{Refusal}
 use Rattle.answers.specs.declared.Refusal.TheVariants.{ShortLog, HighCapture, Settings, Unlisted, CoreFile}
-use Rattle.answers.specs.declared.Verdict.{Verdict}
+
+-- whether a call is refused, and why
+abbrev pub Verdict : Type 0
+Verdict = Result (Unit {0}) Refusal
+
+abbrev pub accepts : Verdict
+accepts = Ok tt
 
 -- a test that refuses where it holds
 pub record Ground : Type 0 where
@@ -21,7 +27,7 @@ refuse f [] x = x
 refuse f (g ∷ l) x = pick g.holds (f g.refusal) (refuse f l x)
 
 abbrev pub verdict : List Ground → Verdict
-verdict l = refuse Verdict.Refused l Verdict.Accepted
+verdict l = refuse Err l accepts
 
 -- the words that a log must have
 abbrev pub log_words : ℕ

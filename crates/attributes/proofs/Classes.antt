@@ -1,17 +1,17 @@
 -- The class of a leaf's memory by the bits that decide it. Caching off does not change it.
 -- Assumes nothing.
-use mathlib.Core.Path.{◌≡◌, refl, sym, ◌∙◌}
+use mathlib.Core.Path.{◌≡◌, refl}
 use mathlib.Core.Bool.{Bool, true, false}
-use Prim.Native.Nat.{ℕ, ◌/◌, ◌%◌}
+use Rattle.std.specs.Prelude.{ℕ, ◌/◌, ◌%◌, Option}
 use lib.Dec.{eqb}
 use Rattle.bits.specs.Bits.{pick}
-use Rattle.attributes.specs.Attributes.{is_device, reported, normal, mair_byte, stage1_attributes, stage2_codes, stage2_attributes, class_of}
+use Rattle.attributes.specs.Attributes.{is_device, reported, normal, mair_byte, stage2_codes, class_of}
 use Rattle.attributes.specs.declared.Cacheability.{Cacheability}
-use Rattle.attributes.specs.declared.Decoded.{Decoded}
+use Rattle.attributes.specs.declared.Attributes.{Attributes}
 use Rattle.attributes.specs.declared.MemoryClass.{MemoryClass}
 use Rattle.attributes.specs.declared.MemoryClass.TheVariants.{Unsettled, Device, Normal}
 
-class_pick : (b : Bool) (p q : Decoded) → class_of (pick b p q) ≡ pick b (class_of p) (class_of q)
+class_pick : (b : Bool) (p q : Option Attributes) → class_of (pick b p q) ≡ pick b (class_of p) (class_of q)
 unfolding pick
 class_pick true p q = refl
 class_pick false p q = refl
@@ -35,11 +35,3 @@ pub codes_class : (u : Bool) (sh outer inner : ℕ) →
     class_of (stage2_codes u sh outer inner) ≡ pick (eqb outer 0) Device (pick (eqb inner 0) Unsettled (normal_class sh))
 unfolding stage2_codes reported is_device class_of pick
 codes_class u sh outer inner = simp (class_pick, normal_class_lem)
-
--- ---- caching off does not change it
-
-pub stage1_same_class : (mair : ℕ) (u v : Bool) (x : ℕ) → class_of (stage1_attributes mair u x) ≡ class_of (stage1_attributes mair v x)
-stage1_same_class mair u v x = mair_class u _ _ ∙ sym (mair_class v _ _)
-
-pub stage2_same_class : (u v : Bool) (x : ℕ) → class_of (stage2_attributes u x) ≡ class_of (stage2_attributes v x)
-stage2_same_class u v x = codes_class u _ _ _ ∙ sym (codes_class v _ _ _)

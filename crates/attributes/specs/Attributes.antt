@@ -1,6 +1,6 @@
 -- Memory attributes: decoding, combining, reporting (01, Attributes).
 -- Assumes nothing.
-use Rattle.std.specs.Prelude.{Bool, true, false, ◌&&◌, ℕ, ◌*◌, ◌/◌, ◌%◌, leb, eqb}
+use Rattle.std.specs.Prelude.{Bool, true, false, ◌&&◌, ℕ, ◌*◌, ◌/◌, ◌%◌, leb, eqb, Option, Some, None}
 use Rattle.bits.specs.Bits.{pick, field}
 use Rattle.attributes.specs.declared.DeviceType.{DeviceType}
 use Rattle.attributes.specs.declared.DeviceType.TheVariants.{NGnRnE, NGnRE, NGRE, GRE}
@@ -11,8 +11,6 @@ use Rattle.attributes.specs.declared.MemoryType.TheVariants.{Device, Normal}
 use Rattle.attributes.specs.declared.Shareability.{Shareability}
 use Rattle.attributes.specs.declared.Shareability.TheVariants.{NonShareable, OuterShareable, InnerShareable}
 use Rattle.attributes.specs.declared.Attributes.{Attributes}
-use Rattle.attributes.specs.declared.Decoded.{Decoded}
-use Rattle.attributes.specs.declared.Decoded.TheVariants.{Settled, Unsettled}
 use Rattle.attributes.specs.declared.MemoryClass.{MemoryClass}
 use Rattle.attributes.specs.declared.MemoryClass.TheVariants as Class
 
@@ -52,48 +50,48 @@ reported (Normal o i) s =
     record { memory = Normal o i; shareability = pick (is_non_cacheable o && is_non_cacheable i) OuterShareable s }
 
 -- Normal memory with caching off is Non-cacheable; SH 1 is unsettled on Normal memory (01, Attributes, SH)
-unfoldable pub normal : (uncached : Bool) (sh : ℕ) → Cacheability → Cacheability → Decoded
+unfoldable pub normal : (uncached : Bool) (sh : ℕ) → Cacheability → Cacheability → Option Attributes
 normal uncached sh o i =
-    pick (eqb sh 1) Unsettled
-    (Settled (reported (pick uncached (Normal NonCacheable NonCacheable) (Normal o i)) (shareability_of sh)))
+    pick (eqb sh 1) None
+    (Some (reported (pick uncached (Normal NonCacheable NonCacheable) (Normal o i)) (shareability_of sh)))
 
-abbrev pub device : DeviceType → Decoded
-device d = Settled (reported (Device d) OuterShareable)
+abbrev pub device : DeviceType → Option Attributes
+device d = Some (reported (Device d) OuterShareable)
 
 -- ---- decoding
 
 -- stage 1: a byte of MAIR, and SH (01, Attributes, stage 1)
-unfoldable pub mair_byte : (uncached : Bool) (sh byte : ℕ) → Decoded
+unfoldable pub mair_byte : (uncached : Bool) (sh byte : ℕ) → Option Attributes
 mair_byte uncached sh byte =
     pick (eqb (byte / 16) 0)
-    (pick (eqb (byte % 4) 0) (device (device_of (byte / 4))) Unsettled)
-    (pick (eqb (byte % 16) 0) Unsettled
+    (pick (eqb (byte % 4) 0) (device (device_of (byte / 4))) None)
+    (pick (eqb (byte % 16) 0) None
     (normal uncached sh (mair_nibble (byte / 16)) (mair_nibble (byte % 16))))
 
 -- stage 1's descriptor x: bits 4:2 pick the byte, bits 9:8 are SH (01, Attributes, stage 1; AArch64.S1AttrDecode)
-abbrev pub stage1_attributes : (mair : ℕ) (uncached : Bool) (x : ℕ) → Decoded
+abbrev pub stage1_attributes : (mair : ℕ) (uncached : Bool) (x : ℕ) → Option Attributes
 stage1_attributes mair uncached x = mair_byte uncached (field x 8 2) (field mair (8 * field x 2 3) 8)
 
 -- stage 2's codes in bits 5:4 (outer) and 3:2 (inner) (01, Attributes, stage 2; S2AttrDecode)
-unfoldable pub stage2_codes : (uncached : Bool) (sh outer inner : ℕ) → Decoded
+unfoldable pub stage2_codes : (uncached : Bool) (sh outer inner : ℕ) → Option Attributes
 stage2_codes uncached sh outer inner =
     pick (eqb outer 0) (device (device_of inner))
-    (pick (eqb inner 0) Unsettled
+    (pick (eqb inner 0) None
     (normal uncached sh (stage2_bits outer) (stage2_bits inner)))
 
-abbrev pub stage2_attributes : (uncached : Bool) (x : ℕ) → Decoded
+abbrev pub stage2_attributes : (uncached : Bool) (x : ℕ) → Option Attributes
 stage2_attributes uncached x = stage2_codes uncached (field x 8 2) (field x 4 2) (field x 2 2)
 
 -- ---- what decides whether an access passes
 
-unfoldable pub class_of : Decoded → MemoryClass
-class_of (Settled a) = pick (is_device a.memory) Class.Device Class.Normal
-class_of Unsettled = Class.Unsettled
+unfoldable pub class_of : Option Attributes → MemoryClass
+class_of (Some a) = pick (is_device a.memory) Class.Device Class.Normal
+class_of None = Class.Unsettled
 
 -- the attributes, for who has found them settled; else the strictest
-unfoldable pub settled_part : Decoded → Attributes
-settled_part (Settled a) = a
-settled_part Unsettled = reported (Device NGnRnE) OuterShareable
+unfoldable pub settled_part : Option Attributes → Attributes
+settled_part (Some a) = a
+settled_part None = reported (Device NGnRnE) OuterShareable
 
 -- ---- stage 1 off
 

@@ -1,5 +1,5 @@
 // Memory attributes: decoding, combining, reporting.
-#![tactic(auto)]
+#![tactic(auto, using(bits::proofs::Tests::choices))]
 
 ghost use Rattle.std.specs.Prelude.{◌≡◌, Bool, ◌&&◌, eqb};
 ghost use Rattle.bits.specs.Bits.{pick};
@@ -7,8 +7,8 @@ ghost use Rattle.attributes.specs.Attributes as Memories;
 
 use bits::field;
 
-// Device memory, strictest first.
-#[derive(Clone, Copy)]
+// Of the kinds of Device memory, of cacheability and of shareability, the strictest comes first: where two stages meet, the lesser stands.
+#[derive(Clone, Copy, PartialEq, Eq, PartialOrd, Ord)]
 pub enum DeviceType {
     NGnRnE,
     NGnRE,
@@ -16,14 +16,14 @@ pub enum DeviceType {
     GRE,
 }
 
-#[derive(Clone, Copy)]
+#[derive(Clone, Copy, PartialEq, Eq, PartialOrd, Ord)]
 pub enum Cacheability {
     NonCacheable,
     WriteThrough,
     WriteBack,
 }
 
-#[derive(Clone, Copy)]
+#[derive(Clone, Copy, PartialEq, Eq)]
 pub enum MemoryType {
     Device(DeviceType),
     Normal {
@@ -32,28 +32,21 @@ pub enum MemoryType {
     },
 }
 
-#[derive(Clone, Copy)]
+#[derive(Clone, Copy, PartialEq, Eq, PartialOrd, Ord)]
 pub enum Shareability {
-    NonShareable,
     OuterShareable,
     InnerShareable,
+    NonShareable,
 }
 
-#[derive(Clone, Copy)]
+#[derive(Clone, Copy, PartialEq, Eq)]
 pub struct Attributes {
     pub memory: MemoryType,
     pub shareability: Shareability,
 }
 
-// Attributes as a descriptor gives them, if Arm settles what it gives.
-#[derive(Clone, Copy)]
-pub enum Decoded {
-    Settled(Attributes),
-    Unsettled,
-}
-
 // What of a leaf's memory decides whether an access passes: whether Arm settles it, and whether it is Device memory.
-#[derive(Clone, Copy)]
+#[derive(Clone, Copy, PartialEq, Eq)]
 pub enum MemoryClass {
     Unsettled,
     Device,
@@ -61,21 +54,20 @@ pub enum MemoryClass {
 }
 
 // Device memory by two bits, in the order of the list.
+#[tactic(auto, using(bits::proofs::Tests::choices), unfolding(crate::specs::Attributes::device_of))]
 fn device_of(v: u64) -> DeviceType
     ensures { result ≡ Memories.device_of v }
 {
-    if v == 0 {
-        DeviceType::NGnRnE
-    } else if v == 1 {
-        DeviceType::NGnRE
-    } else if v == 2 {
-        DeviceType::NGRE
-    } else {
-        DeviceType::GRE
+    match v {
+        0 => DeviceType::NGnRnE,
+        1 => DeviceType::NGnRE,
+        2 => DeviceType::NGRE,
+        _ => DeviceType::GRE,
     }
 }
 
 // A nibble of a MAIR byte, from 1 up.
+#[tactic(auto, using(bits::proofs::Tests::choices), unfolding(crate::specs::Attributes::mair_nibble))]
 fn mair_nibble(v: u64) -> Cacheability
     ensures { result ≡ Memories.mair_nibble v }
 {
@@ -89,39 +81,34 @@ fn mair_nibble(v: u64) -> Cacheability
 }
 
 // Stage 2's two bits, from 1 up.
+#[tactic(auto, using(bits::proofs::Tests::choices), unfolding(crate::specs::Attributes::stage2_bits))]
 fn stage2_bits(v: u64) -> Cacheability
     ensures { result ≡ Memories.stage2_bits v }
 {
-    if v == 1 {
-        Cacheability::NonCacheable
-    } else if v == 2 {
-        Cacheability::WriteThrough
-    } else {
-        Cacheability::WriteBack
+    match v {
+        1 => Cacheability::NonCacheable,
+        2 => Cacheability::WriteThrough,
+        _ => Cacheability::WriteBack,
     }
 }
 
 // SH. Code 1 is reserved; who calls has ruled it out.
+#[tactic(auto, using(bits::proofs::Tests::choices), unfolding(crate::specs::Attributes::shareability_of))]
 fn shareability_of(v: u64) -> Shareability
     ensures { result ≡ Memories.shareability_of v }
 {
-    if v == 2 {
-        Shareability::OuterShareable
-    } else if v == 3 {
-        Shareability::InnerShareable
-    } else {
-        Shareability::NonShareable
+    match v {
+        2 => Shareability::OuterShareable,
+        3 => Shareability::InnerShareable,
+        _ => Shareability::NonShareable,
     }
 }
 
+#[tactic(auto, using(bits::proofs::Tests::choices), unfolding(crate::specs::Attributes::is_non_cacheable))]
 fn is_non_cacheable(c: Cacheability) -> bool
     ensures { result ≡ Memories.is_non_cacheable c }
 {
-    match c {
-        Cacheability::NonCacheable => true,
-        Cacheability::WriteThrough => false,
-        Cacheability::WriteBack => false,
-    }
+    c == Cacheability::NonCacheable
 }
 
 fn neither_cacheable(outer: Cacheability, inner: Cacheability) -> bool
@@ -142,6 +129,7 @@ fn normal_shareability(outer: Cacheability, inner: Cacheability, s: Shareability
 }
 
 // Attributes as they are reported. Device memory is outer shareable.
+#[tactic(auto, using(bits::proofs::Tests::choices), unfolding(crate::specs::Attributes::reported))]
 fn reported(m: MemoryType, s: Shareability) -> Attributes
     ensures { result ≡ Memories.reported m s }
 {
@@ -169,34 +157,33 @@ fn cached(uncached: bool, outer: Cacheability, inner: Cacheability) -> MemoryTyp
     ensures { result ≡ pick uncached (MemoryType.Normal Cacheability.NonCacheable Cacheability.NonCacheable) (MemoryType.Normal outer inner) }
 {
     if uncached {
-        MemoryType::Normal {
-            outer: Cacheability::NonCacheable,
-            inner: Cacheability::NonCacheable,
-        }
+        alike(Cacheability::NonCacheable)
     } else {
         MemoryType::Normal { outer, inner }
     }
 }
 
 // Normal memory; its SH must be a code.
-fn normal(uncached: bool, sh: u64, outer: Cacheability, inner: Cacheability) -> Decoded
+#[tactic(auto, using(bits::proofs::Tests::choices), unfolding(crate::specs::Attributes::normal))]
+fn normal(uncached: bool, sh: u64, outer: Cacheability, inner: Cacheability) -> Option<Attributes>
     ensures { result ≡ Memories.normal uncached sh outer inner }
 {
     if sh == 1 {
-        Decoded::Unsettled
+        None
     } else {
-        Decoded::Settled(reported(cached(uncached, outer, inner), shareability_of(sh)))
+        Some(reported(cached(uncached, outer, inner), shareability_of(sh)))
     }
 }
 
-fn device(d: DeviceType) -> Decoded
+fn device(d: DeviceType) -> Option<Attributes>
     ensures { result ≡ Memories.device d }
 {
-    Decoded::Settled(reported(MemoryType::Device(d), Shareability::OuterShareable))
+    Some(reported(MemoryType::Device(d), Shareability::OuterShareable))
 }
 
 // Stage 1: a byte of MAIR, and SH.
-fn mair_byte(uncached: bool, sh: u64, byte: u64) -> Decoded
+#[tactic(auto, using(bits::proofs::Tests::choices), unfolding(crate::specs::Attributes::mair_byte))]
+fn mair_byte(uncached: bool, sh: u64, byte: u64) -> Option<Attributes>
     ensures { result ≡ Memories.mair_byte uncached sh byte }
 {
     let outer = byte / 16;
@@ -205,17 +192,17 @@ fn mair_byte(uncached: bool, sh: u64, byte: u64) -> Decoded
         if byte % 4 == 0 {
             device(device_of(byte / 4))
         } else {
-            Decoded::Unsettled
+            None
         }
     } else if inner == 0 {
-        Decoded::Unsettled
+        None
     } else {
         normal(uncached, sh, mair_nibble(outer), mair_nibble(inner))
     }
 }
 
 // Stage 1's descriptor x: AttrIndx, bits 4:2, picks the byte of MAIR_EL1; SH is bits 9:8.
-pub fn stage1_attributes(mair: u64, uncached: bool, x: u64) -> Decoded
+pub fn stage1_attributes(mair: u64, uncached: bool, x: u64) -> Option<Attributes>
     ensures { result ≡ Memories.stage1_attributes mair uncached x }
 {
     let index = field(x, 2, 3);
@@ -223,20 +210,21 @@ pub fn stage1_attributes(mair: u64, uncached: bool, x: u64) -> Decoded
 }
 
 // Stage 2: the outer code and the inner code of MemAttr, and SH.
-fn stage2_codes(uncached: bool, sh: u64, outer: u64, inner: u64) -> Decoded
+#[tactic(auto, using(bits::proofs::Tests::choices), unfolding(crate::specs::Attributes::stage2_codes))]
+fn stage2_codes(uncached: bool, sh: u64, outer: u64, inner: u64) -> Option<Attributes>
     ensures { result ≡ Memories.stage2_codes uncached sh outer inner }
 {
     if outer == 0 {
         device(device_of(inner))
     } else if inner == 0 {
-        Decoded::Unsettled
+        None
     } else {
         normal(uncached, sh, stage2_bits(outer), stage2_bits(inner))
     }
 }
 
 // Stage 2's descriptor x: MemAttr is bits 5:2, SH bits 9:8.
-pub fn stage2_attributes(uncached: bool, x: u64) -> Decoded
+pub fn stage2_attributes(uncached: bool, x: u64) -> Option<Attributes>
     ensures { result ≡ Memories.stage2_attributes uncached x }
 {
     stage2_codes(uncached, field(x, 8, 2), field(x, 4, 2), field(x, 2, 2))
@@ -292,19 +280,18 @@ pub fn stage2_class(x: u64) -> MemoryClass
 }
 
 // The attributes, for who has found them settled.
-pub fn settled_part(d: Decoded) -> Attributes
+#[tactic(auto, using(bits::proofs::Tests::choices), unfolding(crate::specs::Attributes::settled_part, crate::specs::Attributes::reported))]
+pub fn settled_part(d: Option<Attributes>) -> Attributes
     ensures { result ≡ Memories.settled_part d }
 {
-    match d {
-        Decoded::Settled(a) => a,
-        Decoded::Unsettled => Attributes {
-            memory: MemoryType::Device(DeviceType::NGnRnE),
-            shareability: Shareability::OuterShareable,
-        },
-    }
+    d.unwrap_or(Attributes {
+        memory: MemoryType::Device(DeviceType::NGnRnE),
+        shareability: Shareability::OuterShareable,
+    })
 }
 
 // With stage 1 off: by HCR_EL2.DC, by whether the access is a fetch, and by SCTLR_EL1.I.
+#[tactic(auto, using(bits::proofs::Tests::choices), unfolding(crate::specs::Attributes::stage1_off_attributes))]
 pub fn stage1_off_attributes(dc: bool, fetch: bool, i: bool) -> Attributes
     ensures { result ≡ Memories.stage1_off_attributes dc fetch i }
 {
@@ -330,102 +317,35 @@ pub fn stage1_off_attributes(dc: bool, fetch: bool, i: bool) -> Attributes
     }
 }
 
-// Ranks: 0 is the strictest, and of two the stricter wins.
-fn device_rank(d: DeviceType) -> u64
-    ensures { result ≡ Memories.device_rank d }
+// Of two kinds the stricter; Device memory stands over Normal memory.
+#[tactic(auto, using(crate::proofs::Ranks::lesser_device, crate::proofs::Ranks::lesser_cache), unfolding(crate::specs::Attributes::combine_memory))]
+fn combine_memory(a: MemoryType, b: MemoryType) -> MemoryType
+    ensures { result ≡ Memories.combine_memory a b }
 {
-    match d {
-        DeviceType::NGnRnE => 0,
-        DeviceType::NGnRE => 1,
-        DeviceType::NGRE => 2,
-        DeviceType::GRE => 3,
-    }
-}
-
-fn cache_rank(c: Cacheability) -> u64
-    ensures { result ≡ Memories.cache_rank c }
-{
-    match c {
-        Cacheability::NonCacheable => 0,
-        Cacheability::WriteThrough => 1,
-        Cacheability::WriteBack => 2,
-    }
-}
-
-fn share_rank(s: Shareability) -> u64
-    ensures { result ≡ Memories.share_rank s }
-{
-    match s {
-        Shareability::OuterShareable => 0,
-        Shareability::InnerShareable => 1,
-        Shareability::NonShareable => 2,
-    }
-}
-
-fn combine_device(a: DeviceType, b: DeviceType) -> DeviceType
-    ensures { result ≡ Memories.combine_device a b }
-{
-    if device_rank(a) <= device_rank(b) {
-        a
-    } else {
-        b
-    }
-}
-
-fn combine_cache(a: Cacheability, b: Cacheability) -> Cacheability
-    ensures { result ≡ Memories.combine_cache a b }
-{
-    if cache_rank(a) <= cache_rank(b) { a } else { b }
-}
-
-fn combine_shareability(a: Shareability, b: Shareability) -> Shareability
-    ensures { result ≡ Memories.combine_shareability a b }
-{
-    if share_rank(a) <= share_rank(b) { a } else { b }
-}
-
-// Device memory with whatever the other stage says.
-fn combine_with_device(d: DeviceType, b: MemoryType) -> MemoryType
-    ensures { result ≡ Memories.combine_memory (MemoryType.Device d) b }
-{
-    match b {
-        MemoryType::Device(e) => MemoryType::Device(combine_device(d, e)),
-        MemoryType::Normal { outer: _, inner: _ } => MemoryType::Device(d),
-    }
-}
-
-// Normal memory with whatever the other stage says.
-fn combine_with_normal(outer: Cacheability, inner: Cacheability, b: MemoryType) -> MemoryType
-    ensures { result ≡ Memories.combine_memory (MemoryType.Normal outer inner) b }
-{
-    match b {
-        MemoryType::Device(e) => MemoryType::Device(e),
-        MemoryType::Normal { outer: p, inner: j } => MemoryType::Normal {
-            outer: combine_cache(outer, p),
-            inner: combine_cache(inner, j),
+    match (a, b) {
+        (MemoryType::Device(d), MemoryType::Device(e)) => MemoryType::Device(d.min(e)),
+        (MemoryType::Device(d), MemoryType::Normal { .. }) => MemoryType::Device(d),
+        (MemoryType::Normal { .. }, MemoryType::Device(e)) => MemoryType::Device(e),
+        (
+            MemoryType::Normal { outer, inner },
+            MemoryType::Normal {
+                outer: other_outer,
+                inner: other_inner,
+            },
+        ) => MemoryType::Normal {
+            outer: outer.min(other_outer),
+            inner: inner.min(other_inner),
         },
     }
 }
 
-fn combine_memory(a: MemoryType, b: MemoryType) -> MemoryType
-    ensures { result ≡ Memories.combine_memory a b }
-{
-    match a {
-        MemoryType::Device(d) => combine_with_device(d, b),
-        MemoryType::Normal { outer, inner } => combine_with_normal(outer, inner, b),
-    }
-}
-
 // What both stages say together: in each part the stricter.
+#[tactic(auto, using(crate::proofs::Ranks::lesser_share))]
 pub fn combine(a: Attributes, b: Attributes) -> Attributes
     ensures { result ≡ Memories.combine a b }
 {
-    let memory_a = a.memory;
-    let memory_b = b.memory;
-    let shareability_a = a.shareability;
-    let shareability_b = b.shareability;
     reported(
-        combine_memory(memory_a, memory_b),
-        combine_shareability(shareability_a, shareability_b),
+        combine_memory(a.memory, b.memory),
+        a.shareability.min(b.shareability),
     )
 }

@@ -1,123 +1,109 @@
 -- Answers one after the other: entries of a table, and listed tables.
 -- Assumes nothing.
-use mathlib.Core.Path.{◌≡◌, refl, sym, ap, ◌∙◌}
-use mathlib.Core.Bool.{true, false, true≢false, false≢true, ◌&&◌}
-use mathlib.Core.List.{List}
-use Prim.Native.Nat.{ℕ, zero, suc, ◌+◌, ◌-◌, ◌*◌, ◌^◌, ◌≤◌, ◌<◌}
+use mathlib.Core.Path.{◌≡◌, refl, sym, subst, ◌∙◌}
+use mathlib.Core.Bool.{true, false}
+use mathlib.Core.List.{List, [], ◌∷◌}
+use Prim.Native.Nat.{ℕ, suc, ◌+◌, ◌-◌, ◌*◌, ◌^◌, ◌≤◌, ◌<◌}
 use native.Mathlib.Omega.{arith}
-use lib.Dec.{leb}
-use lib.ListN.{length, get_or}
-use borrow.Author.Tests.{leb-true}
-use Rattle.bits.proofs.Tests.{and_left, and_right}
-use Rattle.lists.specs.Lists.{zip, table_fits, is_multiple, grants_formed, well_formed}
+use lib.ListN.{length, get_or, drop, drop_of_length-le}
+use lib.Seq.{drop-cons}
+use Rattle.std.specs.Prelude.{Some, None, Result, Ok, Err, Option}
+use Rattle.std.specs.Result.{result_err}
 use Rattle.lists.specs.Search.{touches}
-use Rattle.lists.proofs.Pairs.{from, from_next, from_end}
 use Rattle.reads.specs.Program.{Request}
-use Rattle.reads.specs.declared.Read.{Read}
 use Rattle.bits.specs.Bits.{pick}
 use Rattle.descriptor.specs.declared.entry.Geometry.{Geometry}
-use Rattle.audit.specs.Audit.{found, or_else, each_entry, audit_table, audit_listed}
-use Rattle.audit.specs.Calls.{Formed, is_clean, entry_says, entry_lies}
+use Rattle.audit.specs.Audit.{AuditAnswer, found, or_else, each_entry, audit_table, audit_listed}
+use Rattle.audit.specs.Calls.{answered, entry_says, entry_lies}
+use Rattle.audit.specs.declared.Finding.{Finding}
 use Rattle.audit.specs.declared.FindingKind.TheVariants.{TouchesGrant}
-use Rattle.audit.specs.declared.AuditAnswer.{AuditAnswer}
-use Rattle.audit.specs.declared.AuditAnswer.TheVariants.{Clean, Found, Refused}
 
 -- ---- the first that is not clean
 
-pub or_clean : (a b : AuditAnswer) → is_clean a ≡ true → or_else a b ≡ b
-unfolding or_else is_clean
-or_clean Clean b e = refl
-or_clean (Found f) b e = absurd (false≢true e)
-or_clean (Refused r) b e = absurd (false≢true e)
+pub or_clean : (a b : AuditAnswer) → Ok None ≡ a → or_else a b ≡ b
+unfolding or_else
+or_clean a b e = rw (← e)
 
-pub or_found : (a b : AuditAnswer) → is_clean a ≡ false → or_else a b ≡ a
-unfolding or_else is_clean
-or_found Clean b e = absurd (true≢false e)
-or_found (Found f) b e = refl
-or_found (Refused r) b e = refl
+pub or_found : (a b : AuditAnswer) (f : Finding) → Ok (Some f) ≡ a → or_else a b ≡ Ok (Some f)
+unfolding or_else
+or_found a b f e = rw (← e)
+
+-- a finding, if there is one, is the answer
+pub carried : (r : Result (Unit {0}) Finding) → ◌≡◌ {A = AuditAnswer} (Ok (result_err r)) (answered r)
+carried (Ok u) = refl
+carried (Err f) = refl
 
 -- ---- entries
 
--- the entries that are left decide
-pub record Left (f : ℕ → AuditAnswer) (entries table left at : ℕ) : Type 0 where
-  pub rest : each_entry f left at ≡ each_entry f entries table
-  pub ends : at + 8 * left ≡ table + 8 * entries
+-- the entries from the i-th on decide
+pub record Left (f : ℕ → AuditAnswer) (entries table i : ℕ) : Type 0 where
+  pub rest : each_entry f (entries - i) (table + 8 * i) ≡ each_entry f entries table
 
 module _ (f : ℕ → AuditAnswer) (entries table : ℕ) where
-  pub left_all : Left f entries table entries table
-  left_all = record { rest = refl; ends = refl }
+  pub left_all : Left f entries table 0
+  left_all = let n : entries - 0 ≡ entries = omega arith in let t : table + 8 * 0 ≡ table = omega arith in record { rest = rw (n, t) }
 
-  step : (left at : ℕ) → 0 < left → each_entry f left at ≡ or_else (f at) (each_entry f (left - 1) (at + 8))
-  unfolding each_entry
-  step zero at h = absurd (omega arith)
-  step (suc left) at h = let z : left ≡ suc left - 1 = omega arith in ap (λ k. or_else (f at) (each_entry f k (at + 8))) z
+  module _ (i : ℕ) (w : Left f entries table i) where
+    step : i < entries → or_else (f (table + 8 * i)) (each_entry f (entries - (i + 1)) (table + 8 * (i + 1))) ≡ each_entry f entries table
+    unfolding each_entry
+    step less =
+        let n : entries - i ≡ suc (entries - (i + 1)) = omega arith in
+        let a : table + 8 * i + 8 ≡ table + 8 * (i + 1) = omega arith in
+        rw (n, a) at w.rest
 
-  pub left_next : {left at : ℕ} → 0 < left → is_clean (f at) ≡ true → Left f entries table left at → Left f entries table (left - 1) (at + 8)
-  left_next {left} {at} some clean w = record { rest = sym (step left at some ∙ or_clean _ _ clean) ∙ w.rest; ends = omega (arith, w.ends) }
+    pub left_next : i < entries → Ok None ≡ f (table + 8 * i) → Left f entries table (i + 1)
+    left_next less clean = record { rest = sym (or_clean _ _ clean) ∙ step less }
 
-  pub left_found : {left at : ℕ} → 0 < left → is_clean (f at) ≡ false → Left f entries table left at → f at ≡ each_entry f entries table
-  left_found {left} {at} some dirty w = sym (step left at some ∙ or_found _ _ dirty) ∙ w.rest
+    pub left_found : i < entries → (x : Finding) → Ok (Some x) ≡ f (table + 8 * i) → Ok (Some x) ≡ each_entry f entries table
+    left_found less x dirty = sym (or_found _ _ x dirty) ∙ step less
 
-  pub left_none : {left at : ℕ} → left ≤ 0 → Left f entries table left at → Clean ≡ each_entry f entries table
-  unfolding each_entry
-  left_none {left} {at} none w = let z : left ≡ 0 = omega arith in rw z at w.rest
+    pub left_none : entries ≤ i → Ok None ≡ each_entry f entries table
+    unfolding each_entry
+    left_none over = let z : entries - i ≡ 0 = omega arith in rw z at w.rest
 
 -- ---- a table
 
-module _ (m : Request → Read) (g : Geometry) (grants tables : List (ℕ × ℕ)) (n j table : ℕ) where
+module _ (m : Request → Option ℕ) (g : Geometry) (grants tables : List (ℕ × ℕ)) (n j table : ℕ) where
   abbrev lies : AuditAnswer
   lies = each_entry (entry_lies m table) (2 ^ j) table
 
-  pub table_missing : is_clean lies ≡ false → lies ≡ audit_table m g grants tables n j table
+  pub table_missing : (f : Finding) → Ok (Some f) ≡ lies → Ok (Some f) ≡ audit_table m g grants tables n j table
   unfolding audit_table
-  table_missing dirty = sym (or_found lies _ dirty)
+  table_missing f dirty = sym (or_found lies _ f dirty)
 
-  pub table_touched : is_clean lies ≡ true → touches grants table (8 * 2 ^ j) ≡ true → found TouchesGrant table ≡ audit_table m g grants tables n j table
+  pub table_touched : Ok None ≡ lies → touches grants table (8 * 2 ^ j) ≡ true → found TouchesGrant table ≡ audit_table m g grants tables n j table
   unfolding audit_table pick or_else
   table_touched clean e = sym (or_clean lies _ clean ∙ rw e)
 
-  pub table_said : is_clean lies ≡ true → touches grants table (8 * 2 ^ j) ≡ false → each_entry (entry_says m g grants tables n) (2 ^ j) table ≡ audit_table m g grants tables n j table
+  pub table_said : Ok None ≡ lies → touches grants table (8 * 2 ^ j) ≡ false → each_entry (entry_says m g grants tables n) (2 ^ j) table ≡ audit_table m g grants tables n j table
   unfolding audit_table pick or_else
   table_said clean e = sym (or_clean lies _ clean ∙ rw e)
 
--- ---- lists
+-- ---- listed tables
 
--- a listed table lies below 2^48, at level 1 to 3
-pub table_bounds : (size table level : ℕ) → 0 < size → table_fits size (table, level) ≡ true → (table < 2 ^ 48) × (1 ≤ level) × (level ≤ 3)
-unfolding table_fits
-table_bounds size table level some e =
-    let low = and_left (is_multiple table size && leb (table + size) (2 ^ 48) && leb 1 level) (leb level 3) e in
-    let ends = leb-true (table + size) (2 ^ 48) (and_right (is_multiple table size) _ (and_left (is_multiple table size && leb (table + size) (2 ^ 48)) (leb 1 level) low)) in (
-      omega (arith, ends),
-      leb-true 1 level (and_right (is_multiple table size && leb (table + size) (2 ^ 48)) _ low),
-      leb-true level 3 (and_right (is_multiple table size && leb (table + size) (2 ^ 48) && leb 1 level) _ e),
-    )
+-- those from the i-th on decide
+pub record Listing (m : Request → Option ℕ) (g : Geometry) (grants tables : List (ℕ × ℕ)) (i : ℕ) : Type 0 where
+  pub rest : audit_listed m g grants tables (drop i tables) ≡ audit_listed m g grants tables tables
 
--- the lists have one length, and the tables from i on decide
-pub record Listing (m : Request → Read) (g : Geometry) (grants : List (ℕ × ℕ)) (tables levels : List ℕ) (i : ℕ) : Type 0 where
-  pub same : length levels ≡ length tables
-  pub rest : audit_listed m g grants (zip tables levels) (from tables levels i) ≡ audit_listed m g grants (zip tables levels) (zip tables levels)
-
-module _ {m : Request → Read} {g : Geometry} {grants : List (ℕ × ℕ)} {tables levels : List ℕ} {i : ℕ} (w : Listing m g grants tables levels i) where
-  abbrev one : AuditAnswer
-  one = audit_table m g grants (zip tables levels) (3 - get_or levels i 0) g.stride (get_or tables i 0)
-
-  turn : i < length tables → or_else one (audit_listed m g grants (zip tables levels) (from tables levels (i + 1))) ≡ audit_listed m g grants (zip tables levels) (zip tables levels)
+module _ {m : Request → Option ℕ} {g : Geometry} {grants tables : List (ℕ × ℕ)} {i : ℕ} (w : Listing m g grants tables i) where
+  pub listing_over : i ≡ length tables → Ok None ≡ audit_listed m g grants tables tables
   unfolding audit_listed
-  turn less = rw (from_next tables levels w.same i less) at w.rest
+  listing_over over = let e : drop i tables ≡ [] = drop_of_length-le tables {i = i} (omega arith) in rw e at w.rest
 
-  pub listing_next : i < length tables → is_clean one ≡ true → Listing m g grants tables levels (i + 1)
-  listing_next less clean = record { same = w.same; rest = sym (or_clean one _ clean) ∙ turn less }
+  module _ (t : ℕ × ℕ) (less : i < length tables) (is : t ≡ get_or tables i t) (n : ℕ) (below : n ≡ 3 - t.1) where
+    abbrev one : AuditAnswer
+    one = audit_table m g grants tables n g.stride t.0
 
-  pub listing_found : i < length tables → is_clean one ≡ false → one ≡ audit_listed m g grants (zip tables levels) (zip tables levels)
-  listing_found less dirty = sym (or_found one _ dirty) ∙ turn less
+    turn : or_else one (audit_listed m g grants tables (drop (i + 1) tables)) ≡ audit_listed m g grants tables tables
+    unfolding audit_listed
+    turn =
+        let k : i + 1 ≡ suc i = omega arith in
+        let p : drop i tables ≡ get_or tables i t ∷ drop (suc i) tables = drop-cons tables i t less in
+        let here : drop i tables ≡ t ∷ drop (i + 1) tables = cc in
+        rw below (rw here at w.rest)
 
-  pub listing_over : length tables ≤ i → Clean ≡ audit_listed m g grants (zip tables levels) (zip tables levels)
-  unfolding audit_listed
-  listing_over over = rw (from_end tables levels w.same i over) at w.rest
+    pub listing_next : (k : ℕ) → k ≡ i + 1 → Ok None ≡ one → Listing m g grants tables k
+    listing_next k next clean = subst (Listing m g grants tables) (sym next) (record { rest = sym (or_clean one _ clean) ∙ turn })
 
--- what the audit tests is what its searches ask for
-pub formed : (size : ℕ) (grants counts tables levels : List ℕ) → 0 < size → well_formed size grants counts tables levels ≡ true → Formed grants counts tables levels
-unfolding well_formed
-formed size grants counts tables levels some e =
-    record { granted = and_left (grants_formed grants counts) _ e; listed = record { size = size; some = some; formed = and_right (grants_formed grants counts) _ e } }
+    pub listing_found : (f : Finding) → Ok (Some f) ≡ one → Ok (Some f) ≡ audit_listed m g grants tables tables
+    listing_found f dirty = sym (or_found one _ f dirty) ∙ turn

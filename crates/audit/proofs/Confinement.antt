@@ -8,7 +8,6 @@ use native.Mathlib.Omega.{arith}
 use borrow.Author.Tests.{not-false}
 use Rattle.reads.specs.Program.{Request, Outcome, reached, stopped, run, nil}
 use Rattle.access.specs.declared.Access.{Access}
-use Rattle.reads.specs.declared.Read.{Read}
 use Rattle.reads.proofs.Holds.{OnOutcome, Holds, holds_reads, holds_run}
 use Rattle.capture.specs.Capture.{any_high}
 use Rattle.layout.specs.Layout.{Form, layout, captured, SameBounds}
@@ -17,8 +16,7 @@ use Rattle.answers.specs.declared.Refusal.{Refusal}
 use Rattle.walk.specs.declared.stop.Stop.{Stop}
 use Rattle.walk.specs.declared.stop.Stop.TheVariants as S
 use Rattle.stages.specs.declared.both.Translation.{Translation}
-use Rattle.walk.specs.declared.table.Root.{Root}
-use Rattle.walk.specs.declared.table.Root.TheVariants.{Unusable, Usable}
+use Rattle.walk.specs.Root.{Root}
 use Rattle.walk.specs.declared.table.Table.{Table}
 use Rattle.stages.specs.Stages.{access}
 use Rattle.stages.proofs.Accesses.{Spot, Hit, Around, holds_access}
@@ -27,32 +25,30 @@ use Rattle.regime.specs.Roots.{root2, stage1, stage2}
 use Rattle.registers.specs.declared.El1.{El1}
 use Rattle.registers.specs.declared.El2.{El2}
 use Rattle.regime.proofs.Roots.{Sane, root2_sane, root1_aligned}
-use Rattle.answers.specs.Refusals.{Ground, refuse, verdict}
-use Rattle.answers.specs.declared.Verdict.{Verdict}
+use Rattle.answers.specs.Refusals.{Ground, refuse, verdict, Verdict, accepts}
 use Rattle.answers.specs.Question.{turned_away, told, ask_over, ask}
 use Rattle.bits.specs.Bits.{pick}
 use Rattle.answers.proofs.Refusals.{refuse_refused, refuse_accepted, by_refuse, holds_for, is_high, is_no_root, none_holds}
 use Rattle.lists.specs.Lists.{zip}
-use Rattle.audit.specs.Audit.{audit_from, audit_grounds, audit_over, audit}
+use Rattle.audit.specs.Audit.{AuditAnswer, audit_from, audit_grounds, audit_over, audit}
 use Rattle.audit.specs.Confinement.{InFrame, Audited, the_root, listed, InTables, ReadIn, MissingIn, AnswerIn, SameTables, Confined, Confinement}
-use Rattle.audit.specs.declared.AuditAnswer.{AuditAnswer}
-use Rattle.audit.specs.declared.AuditAnswer.TheVariants.{Clean, Refused}
+use Rattle.std.specs.Prelude.{None, Ok, Err, Option}
 use Rattle.audit.proofs.Frames.{GrantedLeaf, address_in_frame, descriptor_in_frame}
 use Rattle.audit.proofs.Findings.{clean_left, clean_right, Tables, top, low, entry_says_lem}
 use Rattle.audit.proofs.Dependence.{same_entry}
 
 -- ---- what a clean audit says
 
-not_clean : {X : Type 0} (why : Refusal) → Refused why ≡ Clean → X
+not_clean : {X : Type 0} (why : Refusal) → ◌≡◌ {A = AuditAnswer} (Err why) (Ok None) → X
 not_clean why e = absurd (let z : ◌≡◌ {A = ℕ} 0 1 = cc in omega arith)
 
 -- it met no refusal
-pub unrefused : (l : List Ground) (x : AuditAnswer) → refuse Refused l x ≡ Clean → verdict l ≡ Verdict.Accepted
+pub unrefused : (l : List Ground) (x : AuditAnswer) → refuse Err l x ≡ Ok None → verdict l ≡ accepts
 unrefused l x e = by_verdict (verdict l) refl
   where
-    by_verdict : (v : Verdict) → verdict l ≡ v → verdict l ≡ Verdict.Accepted
-    by_verdict Verdict.Accepted q = q
-    by_verdict (Verdict.Refused why) q = not_clean why (sym (refuse_refused Refused l x why q) ∙ e)
+    by_verdict : (v : Verdict) → verdict l ≡ v → verdict l ≡ accepts
+    by_verdict (Ok tt) q = q
+    by_verdict (Err why) q = not_clean why (sym (refuse_refused Err l x why q) ∙ e)
 
 -- ---- stops that name no stage 1 descriptor, or one in a granted frame
 
@@ -73,13 +69,13 @@ answer_in grants n (stopped (S.Unsettled o)) h = tt
 -- ---- two files
 
 module _ (form : Form) (file file' : List ℕ) (bounds : SameBounds form file file') (low' : any_high (layout form file).banks ≡ false) (r : El2) (grants tables : List (ℕ × ℕ)) where
-  abbrev m : Request → Read
+  abbrev m : Request → Option ℕ
   m = captured form file
 
-  abbrev m' : Request → Read
+  abbrev m' : Request → Option ℕ
   m' = captured form file'
 
-  module _ (root : Table) (rooted : root2 r ≡ Usable root) (sane : Sane (Usable root)) (clean : audit_from m grants tables (Usable root) ≡ Clean)
+  module _ (root : Table) (rooted : root2 r ≡ Ok root) (sane : Sane (Ok root)) (clean : audit_from m grants tables (Ok root) ≡ Ok None)
       (same : SameTables form file file' (root2 r) tables) (on : stage2_on r ≡ true) where
     abbrev T : ℕ → ℕ → ℕ → Type 0
     T = Tables root tables
@@ -134,20 +130,20 @@ module _ (form : Form) (file file' : List ℕ) (bounds : SameBounds form file fi
           (record { reads = holds_reads m' _ _ holds; answer = answer_in grants _ (run m' _) (landed (run m' _) (holds_run m' _ _ holds)) })
 
   -- a clean audit has a usable root
-  by_root : (root : Root) → root2 r ≡ root → Sane root → audit_from m grants tables root ≡ Clean →
+  by_root : (root : Root) → root2 r ≡ root → Sane root → audit_from m grants tables root ≡ Ok None →
       SameTables form file file' (root2 r) tables → stage2_on r ≡ true →
       (g : El1) (a : Access) (log : List ℕ) → Confined (root2 r) grants tables (ask form file' r g a log)
   unfolding audit_from
-  by_root (Unusable kind level) e sane clean same on g a log = not_clean _ clean
-  by_root (Usable t) e sane clean same on g a log = confined_by t e sane clean same on g a log
+  by_root (Err u) e sane clean same on g a log = not_clean _ clean
+  by_root (Ok t) e sane clean same on g a log = confined_by t e sane clean same on g a log
 
 -- stage 2 is on where the audit is not refused
-stage2_on_lem : (unreadable high : Bool) (r : El2) (grants counts tables levels : List ℕ) → verdict (audit_grounds unreadable high r grants counts tables levels) ≡ Verdict.Accepted → stage2_on r ≡ true
+stage2_on_lem : (unreadable high : Bool) (r : El2) (grants counts tables levels : List ℕ) → verdict (audit_grounds unreadable high r grants counts tables levels) ≡ accepts → stage2_on r ≡ true
 unfolding holds_for pick
 stage2_on_lem unreadable high r grants counts tables levels e = not-false _ (none_holds is_no_root (audit_grounds unreadable high r grants counts tables levels) e)
 
 -- and no bank ends high
-ends_low : (unreadable high : Bool) (r : El2) (grants counts tables levels : List ℕ) → verdict (audit_grounds unreadable high r grants counts tables levels) ≡ Verdict.Accepted → high ≡ false
+ends_low : (unreadable high : Bool) (r : El2) (grants counts tables levels : List ℕ) → verdict (audit_grounds unreadable high r grants counts tables levels) ≡ accepts → high ≡ false
 unfolding holds_for pick
 ends_low unreadable high r grants counts tables levels e = none_holds is_high (audit_grounds unreadable high r grants counts tables levels) e
 
@@ -158,5 +154,5 @@ confinement form file file' r grants counts tables levels =
       confined = λ clean bounds same g a log.
           let accepted = unrefused _ _ clean in
           by_root form file file' bounds (ends_low _ _ r grants counts tables levels accepted) r (zip grants counts) (zip tables levels) (root2 r) refl (root2_sane r)
-          (sym (refuse_accepted Refused _ _ accepted) ∙ clean) same (stage2_on_lem _ _ r grants counts tables levels accepted) g a log;
+          (sym (refuse_accepted Err _ _ accepted) ∙ clean) same (stage2_on_lem _ _ r grants counts tables levels accepted) g a log;
     }

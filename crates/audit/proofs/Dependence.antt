@@ -10,25 +10,22 @@ use borrow.Author.Tests.{eq-eqb}
 use Rattle.bits.specs.Bits.{pick}
 use Rattle.reads.specs.Program.{Request}
 use Rattle.reads.proofs.Laws.{all_map}
-use Rattle.reads.specs.declared.Read.{Read}
 use Rattle.descriptor.specs.declared.entry.Geometry.{Geometry}
 use Rattle.capture.specs.Capture.{any_high, memory, SameBytes}
 use Rattle.layout.specs.Layout.{Form, layout, parts_of, captured, SameBounds}
 use Rattle.layout.proofs.Bounds.{same_parts}
 use Rattle.layout.proofs.Parts.{all_inside}
 use Rattle.capture.proofs.Bytewise.{same_word}
-use Rattle.walk.specs.declared.table.Root.{Root}
-use Rattle.walk.specs.declared.table.Root.TheVariants.{Unusable, Usable}
+use Rattle.walk.specs.Root.{Root}
 use Rattle.regime.specs.Roots.{root2}
 use Rattle.registers.specs.declared.El2.{El2}
 use Rattle.answers.specs.Refusals.{refuse}
 use Rattle.lists.specs.Lists.{zip}
 use Rattle.lists.specs.Search.{is_listed}
-use Rattle.audit.specs.Audit.{or_else, stage2_read, each_entry, missing, examine, audit_table, audit_listed, audit_from, audit_grounds, audit_over, audit}
+use Rattle.audit.specs.Audit.{AuditAnswer, or_else, stage2_read, each_entry, missing, examine, audit_table, audit_listed, audit_from, audit_grounds, audit_over, audit}
 use Rattle.audit.specs.Confinement.{the_root, listed, SameTables}
 use Rattle.audit.specs.Dependence.{Dependence}
-use Rattle.audit.specs.declared.AuditAnswer.{AuditAnswer}
-use Rattle.audit.specs.declared.AuditAnswer.TheVariants.{Refused}
+use Rattle.std.specs.Prelude.{Err, Option, Ok}
 
 -- ---- over two memories
 
@@ -49,7 +46,7 @@ listed_on : (t : ℕ × ℕ) (l : List (ℕ × ℕ)) (table level : ℕ) → is_
 unfolding is_listed
 listed_on t l table level h = rw (h, or-true)
 
-module _ (m m' : Request → Read) (g : Geometry) (grants tables : List (ℕ × ℕ)) where
+module _ (m m' : Request → Option ℕ) (g : Geometry) (grants tables : List (ℕ × ℕ)) where
   -- the entries of a table of 2 ^ j
   abbrev SameTable : (j table : ℕ) → Type 0
   SameTable j table = (i : ℕ) → i < 2 ^ j → m (stage2_read (table + 8 * i)) ≡ m' (stage2_read (table + 8 * i))
@@ -86,17 +83,17 @@ module _ (form : Form) (file file' : List ℕ) (bounds : SameBounds form file fi
   same_from : (grants tables : List (ℕ × ℕ)) (root : Root) → SameTables form file file' root tables →
       audit_from (captured form file) grants tables root ≡ audit_from (captured form file') grants tables root
   unfolding audit_from
-  same_from grants tables (Unusable kind level) same = refl
-  same_from grants tables (Usable t) same =
+  same_from grants tables (Err u) same = refl
+  same_from grants tables (Ok t) same =
       ap₂ or_else (same_table _ _ t.geometry grants tables (t.levels - 1) t.bits t.base (same_entry t.bits t.base (same _ _ (the_root refl))))
       (same_listed _ _ t.geometry grants tables tables (λ table level h. same_entry t.geometry.stride table (same _ _ (listed refl level h))))
 
 -- where a bank ends high the tables do not count
 by_high : (unreadable high : Bool) (r : El2) (grants counts tables levels : List ℕ) (x y : AuditAnswer) → (high ≡ false → x ≡ y) →
-    refuse Refused (audit_grounds unreadable high r grants counts tables levels) x ≡ refuse Refused (audit_grounds unreadable high r grants counts tables levels) y
+    refuse Err (audit_grounds unreadable high r grants counts tables levels) x ≡ refuse Err (audit_grounds unreadable high r grants counts tables levels) y
 unfolding refuse pick
 by_high unreadable true r grants counts tables levels x y e = refl
-by_high unreadable false r grants counts tables levels x y e = ap (refuse Refused (audit_grounds unreadable false r grants counts tables levels)) (e refl)
+by_high unreadable false r grants counts tables levels x y e = ap (refuse Err (audit_grounds unreadable false r grants counts tables levels)) (e refl)
 
 pub dependence : (form : Form) (file file' : List ℕ) (r : El2) (grants counts tables levels : List ℕ) → Dependence form file file' r grants counts tables levels
 unfolding audit audit_over
@@ -104,5 +101,5 @@ dependence form file file' r grants counts tables levels =
     record {
       depends = λ bounds same.
           by_high _ _ r grants counts tables levels _ _ (λ low. same_from form file file' bounds low (zip grants counts) (zip tables levels) (root2 r) same)
-          ∙ ap (λ l. refuse Refused (audit_grounds l.unreadable (any_high l.banks) r grants counts tables levels) (audit_from (captured form file') (zip grants counts) (zip tables levels) (root2 r))) bounds.layout;
+          ∙ ap (λ l. refuse Err (audit_grounds l.unreadable (any_high l.banks) r grants counts tables levels) (audit_from (captured form file') (zip grants counts) (zip tables levels) (root2 r))) bounds.layout;
     }

@@ -1,21 +1,25 @@
 // The audit of stage 2's tables against the granted frames (01, The audit).
 #![tactic(auto)]
 
-ghost use Rattle.std.specs.Prelude.{◌≡◌, false, List, ℕ};
-ghost use Rattle.capture.specs.Calls.{captured, Held};
+ghost use Rattle.std.specs.Prelude.{◌≡◌, false, List, ℕ, Option, IfSome};
+ghost use Rattle.std.specs.Option.{is_none};
+ghost use Rattle.reads.specs.Program.{Request};
 ghost use Rattle.layout.specs.Layout.{raw, core};
 ghost use Rattle.audit.specs.Audit as Audits;
+ghost use Rattle.audit.specs.Calls as Calls;
 ghost use Rattle.audit.specs.Confinement.{Confinement};
 
 use answers::Refusal;
-use capture::Front;
+use capture::view::{OnePart, Parts};
+use layout::memories;
+use lists::Lists;
 use registers::El2;
 use walk::end;
 
 pub mod table;
 
 // What can be wrong with an audited table, in the order of the numbers 1 to 4.
-#[derive(Clone, Copy)]
+#[derive(Clone, Copy, PartialEq, Eq, Debug)]
 pub enum FindingKind {
     NotCaptured,
     TouchesGrant,
@@ -24,83 +28,77 @@ pub enum FindingKind {
 }
 
 // The address is the table's for the first two, the entry's for the others.
-#[derive(Clone, Copy)]
+#[derive(Clone, Copy, PartialEq, Eq, Debug)]
 pub struct Finding {
     pub kind: FindingKind,
     pub address: u64,
 }
 
-#[derive(Clone, Copy)]
-pub enum AuditAnswer {
-    Clean,
-    Found(Finding),
-    Refused(Refusal),
-}
-
-fn finding_number(k: FindingKind) -> u64
-    ensures { result ≡ Audits.finding_number k }
-{
-    match k {
-        FindingKind::NotCaptured => 1,
-        FindingKind::TouchesGrant => 2,
-        FindingKind::UnlistedTable => 3,
-        FindingKind::OutsideGrants => 4,
-    }
-}
-
-// The number of an audit's answer.
-pub fn number(a: AuditAnswer) -> u64
-    ensures { result ≡ Audits.audit_number a }
-{
-    match a {
-        AuditAnswer::Clean => 0,
-        AuditAnswer::Found(f) => {
-            let kind = f.kind;
-            finding_number(kind)
+impl FindingKind {
+    fn at(self, address: u64) -> Finding
+        ensures { result ≡ record { kind = self; address = address } }
+    {
+        Finding {
+            kind: self,
+            address,
         }
-        AuditAnswer::Refused(why) => answers::refusal_number(why),
     }
 }
 
-// What is wrong first with stage 2's tables in parts of a file, if anything is: with the root, and then with each listed table. Grants are
-// pairs of an address and a byte count, tables of an address and a level.
+impl From<FindingKind> for u64 {
+    ghost from_gives = { λ kind n. n ≡ Audits.finding_number kind };
+
+    fn from(kind: FindingKind) -> u64 {
+        match kind {
+            FindingKind::NotCaptured => 1,
+            FindingKind::TouchesGrant => 2,
+            FindingKind::UnlistedTable => 3,
+            FindingKind::OutsideGrants => 4,
+        }
+    }
+}
+
+// The number of an audit's answer: no finding, one, or a refusal.
+pub fn number(answer: Result<Option<Finding>, Refusal>) -> u64
+    ensures { result ≡ Audits.audit_number answer }
+{
+    match answer {
+        Ok(None) => 0,
+        Ok(Some(finding)) => u64::from(finding.kind),
+        Err(why) => answers::refusal_number(why),
+    }
+}
+
+// What is wrong first with stage 2's tables, if anything is: with the root, and then with each listed table. They lie in the memory of a
+// file that is readable, if it has one: no bank of it may end past 2^48. Grants are pairs of an address and a byte count, tables of an
+// address and a level. The memory is of one type: in code over any type the check refuses calls of `table::each_entry`, which take a
+// ghost value with a closure.
 fn over(
-    file: &[u8],
-    front: Front,
-    parts: &[u64],
-    high: bool,
+    memory: Option<Parts>,
     r: El2,
     grants: &[u64],
     counts: &[u64],
     tables: &[u64],
     levels: &[u64],
-) -> AuditAnswer
-    requires { high ≡ false → Held front parts.now file.now }
-    ensures { result ≡ Audits.audit_over (captured front parts.now file.now) false high r grants.now counts.now tables.now levels.now }
+) -> Result<Option<Finding>, Refusal>
+    ensures { (m : Request → Option ℕ) → IfSome memory.entry (λ v. Calls.found_in v ≡ m) → result ≡ Audits.audit_over m false (is_none memory.entry) r grants.now counts.now tables.now levels.now }
 {
-    if high {
-        return AuditAnswer::Refused(Refusal::HighCapture);
-    }
-    let item = settings::of_audit(r);
-    if item != 0 {
-        return AuditAnswer::Refused(Refusal::Settings { item });
-    }
-    if !lists::well_formed(regime::table_size(r), grants, counts, tables, levels) {
-        return AuditAnswer::Refused(Refusal::AuditLists);
-    }
+    let memory = memory.ok_or(Refusal::HighCapture)?;
+    settings::of_audit(r)?;
+    let size = regime::table_size(r);
+    let lists = Lists::new(size, grants, counts, tables, levels).ok_or(Refusal::AuditLists)?;
     if !settings::stage2_on(r) {
-        return AuditAnswer::Refused(Refusal::NoRoot);
+        return Err(Refusal::NoRoot);
     }
     let start = regime::start2(r);
-    let ending = start.ending;
-    if !end::passed(ending) {
-        return AuditAnswer::Refused(Refusal::NoRoot);
+    if !end::passed(start.ending) {
+        return Err(Refusal::NoRoot);
     }
-    let root = start.table;
-    table::from_root(file, front, parts, grants, counts, tables, levels, root)
+    Ok(table::from_root(memory, lists, start.table()).err())
 }
 
-// The audit over a raw capture, of which the first byte lies at base.
+// The audit over a raw capture, of which the first byte lies at base. It and `audit_core` are two functions since C calls both: one takes a
+// base, the other may be refused for its headers.
 pub fn audit(
     bytes: &[u8],
     base: u64,
@@ -109,18 +107,12 @@ pub fn audit(
     counts: &[u64],
     tables: &[u64],
     levels: &[u64],
-) -> AuditAnswer
+) -> Result<Option<Finding>, Refusal>
     ensures told { result ≡ Audits.audit (raw base) bytes.now r grants.now counts.now tables.now levels.now }
     ensures confined { (other : List ℕ) → Confinement (raw base) bytes.now other r grants.now counts.now tables.now levels.now }
 {
-    let whole = capture::whole(base, bytes.len());
-    let high = capture::ends_high(base, bytes.len() as u64);
-    let none = [0u64; 1];
     over(
-        bytes,
-        whole,
-        &none[0..0],
-        high,
+        memories::raw(bytes, base).map(OnePart::as_parts),
         r,
         grants,
         counts,
@@ -137,26 +129,11 @@ pub fn audit_core(
     counts: &[u64],
     tables: &[u64],
     levels: &[u64],
-) -> AuditAnswer
+) -> Result<Option<Finding>, Refusal>
     ensures told { result ≡ Audits.audit core file.now r grants.now counts.now tables.now levels.now }
     ensures confined { (other : List ℕ) → Confinement core file.now other r grants.now counts.now tables.now levels.now }
 {
-    let mut words = [0u64; 192];
-    let laid = layout::lay_out(file, &mut words);
-    if !laid.readable {
-        return AuditAnswer::Refused(Refusal::CoreFile);
-    }
-    let end = 3 * laid.count;
-    let front = laid.front;
-    over(
-        file,
-        front,
-        &words[0..end],
-        laid.high,
-        r,
-        grants,
-        counts,
-        tables,
-        levels,
-    )
+    let mut room = memories::NO_PARTS;
+    let memory = memories::core(file, &mut room).ok_or(Refusal::CoreFile)?;
+    over(memory, r, grants, counts, tables, levels)
 }

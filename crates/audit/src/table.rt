@@ -1,160 +1,19 @@
 // Tables of the audit: whether each is whole in the capture and off the grants, and what its entries say.
-ghost use Rattle.std.specs.Prelude.{◌≡◌, true, ◌+◌, ◌-◌, ◌*◌, ◌^◌, ◌≤◌, ◌<◌, length};
-ghost use Rattle.capture.specs.Calls.{captured, Held};
+ghost use Rattle.std.specs.Prelude.{◌≡◌, ℕ, ◌+◌, ◌-◌, ◌*◌, ◌^◌, ◌≤◌, ◌<◌};
 ghost use Rattle.descriptor.specs.Entry.{shift, descriptor_type};
-ghost use Rattle.lists.specs.Lists.{zip};
-ghost use Rattle.walk.specs.declared.table.Root.TheVariants as Roots;
 ghost use Rattle.walk.specs.Calls.{Small};
 ghost use Rattle.audit.specs.Audit as Audits;
 ghost use Rattle.audit.specs.Calls as Calls;
 
-use crate::{AuditAnswer, Finding, FindingKind};
-use capture::Front;
+use crate::{Finding, FindingKind};
+use capture::view::Parts;
 use descriptor::entry;
 use descriptor::entry::{DescriptorType, Geometry};
-use lists::search;
-use reads::Read;
+use lists::Lists;
+use reads::Memory;
 use walk::table::Table;
 
-fn found(kind: FindingKind, address: u64) -> AuditAnswer
-    ensures { result ≡ Audits.found kind address }
-{
-    AuditAnswer::Found(Finding { kind, address })
-}
-
-fn is_clean(a: AuditAnswer) -> bool
-    ensures { result ≡ Calls.is_clean a }
-{
-    match a {
-        AuditAnswer::Clean => true,
-        AuditAnswer::Found(_) => false,
-        AuditAnswer::Refused(_) => false,
-    }
-}
-
-// Clean where a test holds, else a finding.
-fn found_unless(test: bool, kind: FindingKind, address: u64) -> AuditAnswer
-    ensures { result ≡ Calls.found_unless test kind address }
-{
-    if test {
-        AuditAnswer::Clean
-    } else {
-        found(kind, address)
-    }
-}
-
-// What the entry x at an address says, with n levels below it: its next table is listed one level on, or its range is inside a grant.
-fn examine(
-    grants: &[u64],
-    counts: &[u64],
-    tables: &[u64],
-    levels: &[u64],
-    g: Geometry,
-    n: u64,
-    at: u64,
-    x: u64,
-) -> AuditAnswer
-    requires { Calls.Formed grants.now counts.now tables.now levels.now × (n ≤ 3) × (shift g n < 48) }
-    ensures { result ≡ Audits.examine_as g (zip grants.now counts.now) (zip tables.now levels.now) n at x (descriptor_type g n x) }
-{
-    let grainsize = g.grainsize;
-    let stride = g.stride;
-    let kind = entry::descriptor_type(g, n, x);
-    match kind {
-        DescriptorType::Invalid => AuditAnswer::Clean,
-        DescriptorType::Table => {
-            let listed = search::is_listed(tables, levels, bits::upper(x, grainsize), 4 - n);
-            found_unless(listed, FindingKind::UnlistedTable, at)
-        }
-        DescriptorType::Leaf => {
-            let t = grainsize + stride * n;
-            let granted = search::granted(grants, counts, bits::upper(x, t), two_to(t));
-            found_unless(granted, FindingKind::OutsideGrants, at)
-        }
-    }
-}
-
-// What lies at an entry's address says; an absent descriptor nothing.
-fn entry_says(
-    file: &[u8],
-    front: Front,
-    parts: &[u64],
-    grants: &[u64],
-    counts: &[u64],
-    tables: &[u64],
-    levels: &[u64],
-    g: Geometry,
-    n: u64,
-    at: u64,
-) -> AuditAnswer
-    requires { Calls.Formed grants.now counts.now tables.now levels.now × (n ≤ 3) × (shift g n < 48) × Held front parts.now file.now }
-    ensures { result ≡ Calls.entry_says (captured front parts.now file.now) g (zip grants.now counts.now) (zip tables.now levels.now) n at }
-{
-    match capture::read(file, front, parts, at) {
-        Read::Absent => AuditAnswer::Clean,
-        Read::Word(x) => examine(grants, counts, tables, levels, g, n, at, x),
-    }
-}
-
-// The first finding among the entries of a table, ascending.
-fn entries_say(
-    file: &[u8],
-    front: Front,
-    parts: &[u64],
-    grants: &[u64],
-    counts: &[u64],
-    tables: &[u64],
-    levels: &[u64],
-    g: Geometry,
-    n: u64,
-    entries: u64,
-    table: u64,
-) -> AuditAnswer
-    requires { Calls.Formed grants.now counts.now tables.now levels.now × (n ≤ 3) × (shift g n < 48) × Held front parts.now file.now × (table + 8 * entries < 2 ^ 64) }
-    ensures { result ≡ Audits.each_entry (Calls.entry_says (captured front parts.now file.now) g (zip grants.now counts.now) (zip tables.now levels.now) n) entries table }
-{
-    let mut left = entries;
-    let mut at = table;
-    while 0 < left {
-        let said = entry_says(file, front, parts, grants, counts, tables, levels, g, n, at);
-        if !is_clean(said) {
-            return said;
-        }
-        left -= 1;
-        at += 8;
-    }
-    AuditAnswer::Clean
-}
-
-// Whether an entry is in the capture.
-fn entry_lies(file: &[u8], front: Front, parts: &[u64], table: u64, at: u64) -> AuditAnswer
-    requires { Held front parts.now file.now }
-    ensures { result ≡ Calls.entry_lies (captured front parts.now file.now) table at }
-{
-    match capture::read(file, front, parts, at) {
-        Read::Absent => found(FindingKind::NotCaptured, table),
-        Read::Word(_) => AuditAnswer::Clean,
-    }
-}
-
-// Whether all entries of a table are.
-fn entries_lie(file: &[u8], front: Front, parts: &[u64], entries: u64, table: u64) -> AuditAnswer
-    requires { Held front parts.now file.now × (table + 8 * entries < 2 ^ 64) }
-    ensures { result ≡ Audits.each_entry (Calls.entry_lies (captured front parts.now file.now) table) entries table }
-{
-    let mut left = entries;
-    let mut at = table;
-    while 0 < left {
-        let lies = entry_lies(file, front, parts, table, at);
-        if !is_clean(lies) {
-            return lies;
-        }
-        left -= 1;
-        at += 8;
-    }
-    AuditAnswer::Clean
-}
-
+// A shift with a name: its contract tells callers' proofs which power of 2 it is.
 fn two_to(j: u64) -> u64
     requires { j < 64 }
     ensures { result ≡ 2 ^ j }
@@ -162,97 +21,123 @@ fn two_to(j: u64) -> u64
     1 << j
 }
 
-// A table of 2 to the j entries with n levels below them: finding 1, then 2, then the entries'.
-fn one_table(
-    file: &[u8],
-    front: Front,
-    parts: &[u64],
-    grants: &[u64],
-    counts: &[u64],
-    tables: &[u64],
-    levels: &[u64],
-    g: Geometry,
-    n: u64,
-    j: u64,
+// The first finding among some entries from an address on, ascending.
+fn each_entry<F: Fn(u64) -> Result<(), Finding>>(
+    entries: u64,
     table: u64,
-) -> AuditAnswer
-    requires { Calls.Formed grants.now counts.now tables.now levels.now × (n ≤ 3) × (shift g n < 48) × Held front parts.now file.now × (j ≤ 17) × (table < 2 ^ 48) }
-    ensures { result ≡ Audits.audit_table (captured front parts.now file.now) g (zip grants.now counts.now) (zip tables.now levels.now) n j table }
+    says: F,
+) -> Result<(), Finding>
+    ghost finds: { ℕ → Audits.AuditAnswer }
+    requires fits { table + 8 * entries < 2 ^ 64 }
+    requires callable { F.IsAlwaysCallable says }
+    requires means { (at : ℕ) (r : _) → at < 2 ^ 64 → F.post says at r → Calls.answered r ≡ finds at }
+    ensures { Calls.answered result ≡ Audits.each_entry finds entries table }
 {
-    let entries = two_to(j);
-    let lies = entries_lie(file, front, parts, entries, table);
-    if !is_clean(lies) {
-        return lies;
+    for i in 0..entries {
+        says(table + 8 * i)?;
     }
-    if search::touches(grants, counts, table, 8 * entries) {
-        return found(FindingKind::TouchesGrant, table);
-    }
-    entries_say(
-        file, front, parts, grants, counts, tables, levels, g, n, entries, table,
-    )
+    Ok(())
 }
 
-// Each listed table, with all of the granule's entries.
-fn listed_tables(
-    file: &[u8],
-    front: Front,
-    parts: &[u64],
-    grants: &[u64],
-    counts: &[u64],
-    tables: &[u64],
-    levels: &[u64],
-    g: Geometry,
-) -> AuditAnswer
-    requires { Calls.Formed grants.now counts.now tables.now levels.now × (g.grainsize ≤ 16) × (g.stride ≤ 13) × Held front parts.now file.now }
-    ensures { result ≡ Audits.audit_listed (captured front parts.now file.now) g (zip grants.now counts.now) (zip tables.now levels.now) (zip tables.now levels.now) }
-{
-    let stride = g.stride;
-    let mut i = 0;
-    while i < tables.len() {
-        let level = levels[i];
-        let said = one_table(
-            file,
-            front,
-            parts,
-            grants,
-            counts,
-            tables,
-            levels,
-            g,
-            3 - level,
-            stride,
-            tables[i],
-        );
-        if !is_clean(said) {
-            return said;
+// What tables are judged by: the memory that they are read from, and the lists.
+#[derive(Clone, Copy)]
+struct Auditor<'a> {
+    memory: Parts<'a>,
+    lists: Lists<'a>,
+}
+
+impl Auditor<'_> {
+    // What the entry x at an address says, with n levels below it: its next table is listed one level on, or its range is inside a grant.
+    fn examine(&self, g: Geometry, n: u64, at: u64, x: u64) -> Result<(), Finding>
+        requires { (n ≤ 3) × (shift g n < 48) }
+        ensures { Calls.answered result ≡ Audits.examine_as g (Calls.grants_in self.now.lists) (Calls.tables_in self.now.lists) n at x (descriptor_type g n x) }
+    {
+        match entry::descriptor_type(g, n, x) {
+            DescriptorType::Invalid => Ok(()),
+            DescriptorType::Table => {
+                let next = bits::upper(x, g.grainsize);
+                if self.lists.tables.is_listed(next, 4 - n) {
+                    Ok(())
+                } else {
+                    Err(FindingKind::UnlistedTable.at(at))
+                }
+            }
+            DescriptorType::Leaf => {
+                let t = g.grainsize + g.stride * n;
+                if self.lists.grants.granted(bits::upper(x, t), two_to(t)) {
+                    Ok(())
+                } else {
+                    Err(FindingKind::OutsideGrants.at(at))
+                }
+            }
         }
-        i += 1;
     }
-    AuditAnswer::Clean
+
+    // What lies at an entry's address says; an absent descriptor nothing.
+    fn entry_says(&self, g: Geometry, n: u64, at: u64) -> Result<(), Finding>
+        requires { (n ≤ 3) × (shift g n < 48) }
+        ensures { Calls.answered result ≡ Calls.entry_says (Calls.found_in self.now.memory) g (Calls.grants_in self.now.lists) (Calls.tables_in self.now.lists) n at }
+    {
+        match self.memory.read(at) {
+            None => Ok(()),
+            Some(x) => self.examine(g, n, at, x),
+        }
+    }
+
+    // Whether an entry of a table is in the capture.
+    fn entry_lies(&self, table: u64, at: u64) -> Result<(), Finding>
+        ensures { Calls.answered result ≡ Calls.entry_lies (Calls.found_in self.now.memory) table at }
+    {
+        match self.memory.read(at) {
+            None => Err(FindingKind::NotCaptured.at(table)),
+            Some(_) => Ok(()),
+        }
+    }
+
+    // One table: finding 1, then 2, then the entries'.
+    fn one_table(&self, table: Table) -> Result<(), Finding>
+        requires { Small table }
+        ensures { Calls.answered result ≡ Audits.audit_table (Calls.found_in self.now.memory) table.geometry (Calls.grants_in self.now.lists) (Calls.tables_in self.now.lists) (table.levels - 1) table.bits table.base }
+    {
+        let Table {
+            geometry,
+            levels,
+            bits,
+            base,
+        } = table;
+        let entries = two_to(bits);
+        each_entry(entries, base, |at| self.entry_lies(base, at))?;
+        if self.lists.grants.touches(base, 8 * entries) {
+            return Err(FindingKind::TouchesGrant.at(base));
+        }
+        let n = levels - 1;
+        each_entry(entries, base, |at| self.entry_says(geometry, n, at))
+    }
+
+    // Each listed table, with all of the granule's entries.
+    fn listed_tables(&self, geometry: Geometry) -> Result<(), Finding>
+        requires { (geometry.grainsize ≤ 16) × (geometry.stride ≤ 13) × (1 ≤ geometry.block) }
+        ensures { Calls.answered result ≡ Audits.audit_listed (Calls.found_in self.now.memory) geometry (Calls.grants_in self.now.lists) (Calls.tables_in self.now.lists) (Calls.tables_in self.now.lists) }
+    {
+        let tables = self.lists.tables;
+        for (table, level) in tables.addresses.iter().zip(tables.levels) {
+            self.one_table(Table {
+                geometry,
+                levels: 4 - *level,
+                bits: geometry.stride,
+                base: *table,
+            })?;
+        }
+        Ok(())
+    }
 }
 
 // The root with all its entries, and then each listed table.
-pub(crate) fn from_root(
-    file: &[u8],
-    front: Front,
-    parts: &[u64],
-    grants: &[u64],
-    counts: &[u64],
-    tables: &[u64],
-    levels: &[u64],
-    root: Table,
-) -> AuditAnswer
-    requires { Calls.Formed grants.now counts.now tables.now levels.now × Small root × Held front parts.now file.now }
-    ensures { result ≡ Audits.audit_from (captured front parts.now file.now) (zip grants.now counts.now) (zip tables.now levels.now) (Roots.Usable root) }
+pub(crate) fn from_root(memory: Parts, lists: Lists, root: Table) -> Result<(), Finding>
+    requires { Small root }
+    ensures { Calls.answered result ≡ Audits.audit_from (Calls.found_in memory.entry) (Calls.grants_in lists.entry) (Calls.tables_in lists.entry) (Ok root) }
 {
-    let g = root.geometry;
-    let levels_here = root.levels;
-    let n = levels_here - 1;
-    let said = one_table(
-        file, front, parts, grants, counts, tables, levels, g, n, root.bits, root.base,
-    );
-    if !is_clean(said) {
-        return said;
-    }
-    listed_tables(file, front, parts, grants, counts, tables, levels, g)
+    let auditor = Auditor { memory, lists };
+    auditor.one_table(root)?;
+    auditor.listed_tables(root.geometry)
 }

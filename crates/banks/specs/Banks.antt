@@ -1,15 +1,16 @@
 -- The list of a core file's banks: where each lies, what the file has of it, and whether that is all (02, §1).
 -- Assumes nothing.
-use Rattle.std.specs.Prelude.{◌≡◌, Bool, not, ◌||◌, List, [], ◌∷◌, map, ℕ, ltb, length}
+use Rattle.answers.specs.declared.Refusal.{Refusal}
+use Rattle.std.specs.Prelude.{◌≡◌, Bool, not, ◌||◌, List, [], ◌∷◌, map, ℕ, ltb, length, Result, Ok, Err}
 use Rattle.std.proofs.lemmas.List.Edits.{sets}
 use Rattle.bits.specs.Bits.{pick}
-use Rattle.capture.specs.Capture.{Bank, part, kept}
+use Rattle.capture.specs.Capture.{part, kept}
+use Rattle.capture.specs.declared.Bank.{Bank}
 use Rattle.layout.specs.Elf.{banks, most_banks, is_core}
 use Rattle.answers.specs.Answers.{refusal_number}
 use Rattle.answers.specs.Refusals.{Ground, refuse, core_file}
+use Rattle.answers.specs.declared.Refusal.{Refusal}
 use Rattle.answers.specs.declared.Refusal.TheVariants.{ShortLog}
-use Rattle.banks.specs.declared.BanksAnswer.{BanksAnswer}
-use Rattle.banks.specs.declared.BanksAnswer.TheVariants.{Listed, Refused}
 
 -- how many bytes of a bank a file of so many bytes has, and 1 if these are fewer than its header says
 abbrev pub kept_of : (total : ℕ) → Bank → ℕ
@@ -29,7 +30,7 @@ bank_grounds file addresses offsets lengths shorts =
 
 -- what the call gives: its answer, and the four lent lists afterwards
 pub record BanksTold : Type 0 where
-  pub answer : BanksAnswer
+  pub answer : Result ℕ Refusal
   pub addresses : List ℕ
   pub offsets : List ℕ
   pub lengths : List ℕ
@@ -38,10 +39,10 @@ pub record BanksTold : Type 0 where
 -- the banks go over the first words of each list; a refused call writes nothing
 unfoldable pub bank_list : (file addresses offsets lengths shorts : List ℕ) → BanksTold
 bank_list file addresses offsets lengths shorts =
-    refuse (λ why. record { answer = Refused why; addresses = addresses; offsets = offsets; lengths = lengths; shorts = shorts })
+    refuse (λ why. record { answer = Err why; addresses = addresses; offsets = offsets; lengths = lengths; shorts = shorts })
     (bank_grounds file (length addresses) (length offsets) (length lengths) (length shorts))
     (record {
-      answer = Listed (length (banks file));
+      answer = Ok (length (banks file));
       addresses = sets addresses 0 (map (λ b. b.address) (banks file));
       offsets = sets offsets 0 (map (λ b. b.offset) (banks file));
       lengths = sets lengths 0 (map (kept_of (length file)) (banks file));
@@ -49,12 +50,12 @@ bank_list file addresses offsets lengths shorts =
     })
 
 -- the number of an answer; 0 for a list is ours
-abbrev pub banks_number : BanksAnswer → ℕ
-banks_number (Listed n) = 0
-banks_number (Refused r) = refusal_number r
+abbrev pub banks_number : Result ℕ Refusal → ℕ
+banks_number (Ok n) = 0
+banks_number (Err r) = refusal_number r
 
 -- a call that gave what the list gives
-pub record BanksTells (t : BanksTold) (answer : BanksAnswer) (addresses offsets lengths shorts : List ℕ) : Type 0 where
+pub record BanksTells (t : BanksTold) (answer : Result ℕ Refusal) (addresses offsets lengths shorts : List ℕ) : Type 0 where
   pub answered : answer ≡ t.answer
   pub placed : addresses ≡ t.addresses
   pub standing : offsets ≡ t.offsets

@@ -3,34 +3,19 @@
 
 ghost use Rattle.std.specs.Prelude.{◌≡◌, map, ◌≤◌, length};
 ghost use Rattle.std.proofs.lemmas.List.Edits.{sets};
-ghost use Rattle.bits.specs.Bits.{pick};
-ghost use Rattle.capture.specs.Calls.{count_of};
-ghost use Rattle.layout.specs.Calls.{banks_by};
 ghost use Rattle.banks.specs.Banks as Banks;
 
 use answers::Refusal;
+use capture::Bank;
 
-#[derive(Clone, Copy)]
-pub enum BanksAnswer {
-    // How many banks there are.
-    Listed(u64),
-    Refused(Refusal),
-}
-
-// The number of the call's answer.
-pub fn number(a: BanksAnswer) -> u64
-    ensures { result ≡ Banks.banks_number a }
+// The number of the call's answer: 0 for how many banks there are.
+pub fn number(answer: Result<u64, Refusal>) -> u64
+    ensures { result ≡ Banks.banks_number answer }
 {
-    match a {
-        BanksAnswer::Listed(_) => 0,
-        BanksAnswer::Refused(why) => answers::refusal_number(why),
+    match answer {
+        Ok(_) => 0,
+        Err(why) => answers::refusal_number(why),
     }
-}
-
-fn mark(short: bool) -> u64
-    ensures { result ≡ pick short 1 0 }
-{
-    if short { 1 } else { 0 }
 }
 
 // A list has fewer words than there may be banks.
@@ -41,64 +26,54 @@ fn too_short(addresses: usize, offsets: usize, lengths: usize, shorts: usize) ->
     (addresses < most) | (offsets < most) | (lengths < most) | (shorts < most)
 }
 
-// Each bank, by its words, over the first words of the lists.
+// Each bank over the first words of the lists.
 fn write_list(
     total: u64,
-    banks: &[u64],
+    banks: &[Bank],
     addresses: &mut [u64],
     offsets: &mut [u64],
     lengths: &mut [u64],
     shorts: &mut [u64],
 )
-    requires { (count_of banks.now ≤ length addresses.old) × (count_of banks.now ≤ length offsets.old) × (count_of banks.now ≤ length lengths.old) × (count_of banks.now ≤ length shorts.old) }
-    ensures { (addresses.new ≡ sets addresses.old 0 (map (λ b. b.address) (banks_by banks.now)))
-        × (offsets.new ≡ sets offsets.old 0 (map (λ b. b.offset) (banks_by banks.now)))
-        × (lengths.new ≡ sets lengths.old 0 (map (Banks.kept_of total) (banks_by banks.now)))
-        × (shorts.new ≡ sets shorts.old 0 (map (Banks.short_of total) (banks_by banks.now))) }
+    requires { (length banks.now ≤ length addresses.old) × (length banks.now ≤ length offsets.old) × (length banks.now ≤ length lengths.old) × (length banks.now ≤ length shorts.old) }
+    ensures { (addresses.new ≡ sets addresses.old 0 (map (λ b. b.address) banks.now))
+        × (offsets.new ≡ sets offsets.old 0 (map (λ b. b.offset) banks.now))
+        × (lengths.new ≡ sets lengths.old 0 (map (Banks.kept_of total) banks.now))
+        × (shorts.new ≡ sets shorts.old 0 (map (Banks.short_of total) banks.now)) }
 {
-    let count = banks.len() / 3;
-    let mut i = 0;
-    while i < count {
-        let address = banks[3 * i];
-        let offset = banks[3 * i + 1];
-        let size = banks[3 * i + 2];
-        let p = capture::of_bank(total, address, offset, size);
-        let kept = capture::kept(p);
-        addresses[i] = address;
-        offsets[i] = offset;
+    for (i, bank) in banks.iter().enumerate() {
+        let kept = bank.part(total).kept();
+        addresses[i] = bank.address;
+        offsets[i] = bank.offset;
         lengths[i] = kept;
-        shorts[i] = mark(kept < size);
-        i += 1;
+        shorts[i] = u64::from(kept < bank.size);
     }
 }
 
 // The banks of a core file, in the order of its headers, into lists of at least 64 words: the address of each, its offset in the file, how
-// many of its bytes the file has, and 1 if these are fewer than its header says. The other words of the lists are kept.
+// many of its bytes the file has, and 1 if these are fewer than its header says. The other words of the lists are kept. Gives how many
+// banks there are. The caller lends the lists, as C does: there is no heap to make one of structs.
 pub fn list(
     file: &[u8],
     addresses: &mut [u64],
     offsets: &mut [u64],
     lengths: &mut [u64],
     shorts: &mut [u64],
-) -> BanksAnswer
+) -> Result<u64, Refusal>
     ensures { Banks.BanksTells (Banks.bank_list file.now addresses.old offsets.old lengths.old shorts.old) result addresses.new offsets.new lengths.new shorts.new }
 {
-    let mut words = [0u64; 192];
-    let said = layout::read_headers(file, &mut words);
-    if !said.readable {
-        return BanksAnswer::Refused(Refusal::CoreFile);
-    }
+    let mut banks = layout::NO_BANKS;
+    let count = layout::read_headers(file, &mut banks).ok_or(Refusal::CoreFile)?;
     if too_short(addresses.len(), offsets.len(), lengths.len(), shorts.len()) {
-        return BanksAnswer::Refused(Refusal::ShortLog);
+        return Err(Refusal::ShortLog);
     }
-    let end = 3 * said.count;
     write_list(
         file.len() as u64,
-        &words[0..end],
+        &banks[..count],
         addresses,
         offsets,
         lengths,
         shorts,
     );
-    BanksAnswer::Listed(said.count as u64)
+    Ok(count as u64)
 }

@@ -2,31 +2,22 @@
 -- Assumes nothing.
 use mathlib.Core.Path.{◌≡◌, refl, sym, ap, ◌∙◌}
 use mathlib.Core.Bool.{Bool, true, false, not, ◌||◌, true≢false}
-use mathlib.Core.List.{List, [], map}
+use mathlib.Core.List.{List, map}
 use Prim.Native.Nat.{ℕ, ◌^◌, ◌≤◌, ◌<◌}
-use native.Mathlib.Omega.{arith}
 use lib.Dec.{ltb, eqb}
 use lib.ListN.{length, get_or}
 use borrow.Author.Tests.{eqb-true, ltb-false}
 use Rattle.bits.specs.Bits.{pick}
 use Rattle.reads.specs.Program.{Request}
-use Rattle.reads.specs.declared.Read.{Read}
-use Rattle.access.specs.Access.{listed_size}
-use Rattle.capture.specs.Capture.{ends_high}
-use Rattle.capture.specs.Calls as Calls
-use Rattle.capture.specs.declared.Front.{Front}
+use Rattle.std.specs.Prelude.{Option, Result, Ok, Err}
 use Rattle.layout.specs.Elf.{is_core}
-use Rattle.layout.specs.Layout.{raw, core, layout}
-use Rattle.layout.specs.Calls.{Lays}
-use Rattle.layout.specs.declared.Laid.{Laid}
-use Rattle.layout.proofs.Raw as Raw
-use Rattle.layout.proofs.Raw.{raw_captured, raw_high}
-use Rattle.layout.proofs.Core.{lent, laid_captured, laid_high, laid_readable}
-use Rattle.answers.specs.Refusals.{refuse, verdict}
+use Rattle.capture.specs.Capture.{any_high}
+use Rattle.layout.specs.Elf.{banks}
+use Rattle.layout.specs.Layout.{raw, core, layout, captured}
+use Rattle.answers.specs.Refusals.{refuse, verdict, shared, Verdict, accepts}
 use Rattle.answers.specs.declared.Refusal.{Refusal}
 use Rattle.answers.specs.declared.Refusal.TheVariants.{BatchLists, CoreFile}
-use Rattle.answers.specs.declared.Verdict.{Verdict}
-use Rattle.answers.proofs.Refusals.{refuse_refused, refuse_accepted, accepted_settings, accepted_capture, accepted_size}
+use Rattle.answers.proofs.Refusals.{refuse_refused, refuse_accepted}
 use Rattle.settings.specs.Settings.{settings}
 use Rattle.walk.specs.declared.stage2.Stage2.{Stage2}
 use Rattle.stages.specs.declared.stage1.Stage1.{Stage1}
@@ -41,8 +32,6 @@ use Rattle.accesses.specs.Calls.{Each}
 use Rattle.accesses.proofs.Lists.{answers_same}
 use Rattle.ledger.specs.Ledger.{ledger}
 use Rattle.ledger.specs.declared.Ledger.{Ledger}
-use Rattle.batch.specs.declared.BatchAnswer.{BatchAnswer}
-use Rattle.batch.specs.declared.BatchAnswer.TheVariants.{Done, Refused}
 use Rattle.batch.specs.Batch.{Shared, access_to, answer_to, unequal, batch_grounds, BatchTold, answered, batch_over, batch}
 use Rattle.batch.specs.Promises.{BatchTells}
 use Rattle.batch.specs.Calls.{Filled}
@@ -57,61 +46,43 @@ equal_lists asked outputs numbers = by_tests (eqb asked outputs) (eqb asked numb
     by_tests true false d p q r e = absurd (true≢false e)
     by_tests true true d p q r e = (sym (p refl), sym (q refl), r e)
 
--- a first ground that is passed
-first_passed : (b : Bool) (v : Verdict) → pick b (Verdict.Refused BatchLists) v ≡ Verdict.Accepted → (b ≡ false) × (v ≡ Verdict.Accepted)
-unfolding pick
-first_passed true v e = absurd (let z : ◌≡◌ {A = ℕ} 0 1 = cc in omega arith)
-first_passed false v e = (refl, e)
-
 module _ (high : Bool) (s : Shared) (addresses outputs numbers : List ℕ) where
   -- whether it is refused, and why
   abbrev pub own : Verdict
   own = verdict (batch_grounds false high s (length addresses) (length outputs) (length numbers))
 
-  module _ (m : Request → Read) where
+  -- by its own lists, or by what a question is refused for too
+  pub refused_lists : unequal (length addresses) (length outputs) (length numbers) ≡ true → own ≡ Err BatchLists
+  unfolding refuse pick
+  refused_lists e = rw e
+
+  pub equal_own : unequal (length addresses) (length outputs) (length numbers) ≡ false → own ≡ verdict (shared high s.el2 s.el1 s.kind s.el s.size)
+  unfolding refuse pick
+  equal_own e = rw e
+
+  module _ (m : Request → Option ℕ) where
     abbrev pub given : BatchTold
     given = batch_over m false high s addresses outputs numbers
 
     told_as : {t : BatchTold} → given ≡ t → BatchTells given t.answer t.outputs t.numbers
     told_as e = record { answered = sym (ap (λ (z : BatchTold). z.answer) e); placed = sym (ap (λ (z : BatchTold). z.outputs) e); numbered = sym (ap (λ (z : BatchTold). z.numbers) e) }
 
-    pub tells_refused : {why : Refusal} → own ≡ Verdict.Refused why → BatchTells given (Refused why) outputs numbers
+    pub tells_refused : {why : Refusal} → own ≡ Err why → BatchTells given (Err why) outputs numbers
     unfolding batch_over
     tells_refused e = told_as (refuse_refused _ _ _ _ e)
 
-    pub tells_filled : {l : Ledger} {outputs' numbers' : List ℕ} → own ≡ Verdict.Accepted → Filled (answer_to m s) addresses l outputs' numbers' → BatchTells given (Done l) outputs' numbers'
+    pub tells_filled : {l : Ledger} {outputs' numbers' : List ℕ} → own ≡ accepts → Filled (answer_to m s) addresses l outputs' numbers' → BatchTells given (Ok l) outputs' numbers'
     unfolding batch_over answered
     tells_filled accepted f =
         let t : given ≡ answered (map (answer_to m s) addresses) = refuse_accepted _ _ _ accepted in
         record {
-          answered = ap Done f.figures ∙ sym (ap (λ (z : BatchTold). z.answer) t);
+          answered = ap Ok f.figures ∙ sym (ap (λ (z : BatchTold). z.answer) t);
           placed = f.placed ∙ sym (ap (λ (z : BatchTold). z.outputs) t);
           numbered = f.numbered ∙ sym (ap (λ (z : BatchTold). z.numbers) t);
         }
 
--- what a batch that is accepted may be run with
-pub record Running (high : Bool) (s : Shared) (addresses outputs numbers : List ℕ) : Type 0 where
-  pub registers : settings s.el2 s.el1 ≡ 0
-  pub size : listed_size s.size ≡ true
-  pub low : high ≡ false
-  pub placed : length outputs ≡ length addresses
-  pub numbered : length numbers ≡ length addresses
-
-pub running : {high : Bool} {s : Shared} {addresses outputs numbers : List ℕ} → own high s addresses outputs numbers ≡ Verdict.Accepted → Running high s addresses outputs numbers
-unfolding refuse pick
-running {high} {s} {addresses} {outputs} {numbers} accepted =
-    let p = first_passed _ _ accepted in
-    let equal = equal_lists (length addresses) (length outputs) (length numbers) p.0 in
-    record {
-      registers = accepted_settings high s.el2 s.el1 s.kind s.el s.size p.1;
-      size = accepted_size high s.el2 s.el1 s.kind s.el s.size p.1;
-      low = accepted_capture high s.el2 s.el1 s.kind s.el s.size p.1;
-      placed = equal.0;
-      numbered = equal.1;
-    }
-
 -- lists that were filled by the stages as they were prepared
-module _ (m : Request → Read) (s : Shared) (accepted : settings s.el2 s.el1 ≡ 0) (addresses : List ℕ) (fit : (i : ℕ) → i < length addresses → get_or addresses i 0 < 2 ^ 64)
+module _ (m : Request → Option ℕ) (s : Shared) (accepted : settings s.el2 s.el1 ≡ 0) (addresses : List ℕ) (fit : (i : ℕ) → i < length addresses → get_or addresses i 0 < 2 ^ 64)
     {s1 : Stage1} {s2 : Stage2} (one : s1 ≡ narrowed1 s.el2 s.el1) (two : s2 ≡ narrowed2 s.el2) where
   alike : (f : Answer → ℕ) → map (λ x. f (answer_of m s1 s2 (access_to s x))) addresses ≡ map f (map (answer_to m s) addresses)
   alike f =
@@ -126,21 +97,21 @@ module _ (m : Request → Read) (s : Shared) (accepted : settings s.el2 s.el1 �
 
 -- ---- the batch over a file, as code runs it
 
-module _ (s : Shared) (addresses outputs numbers : List ℕ) {answer : BatchAnswer} {outputs' numbers' : List ℕ} where
-  pub raw_tells : {high : Bool} {front : Front} (base : ℕ) (file : List ℕ) → front ≡ Raw.whole base file → high ≡ ends_high base (length file) →
-      BatchTells (batch_over (Calls.captured front [] file) false high s addresses outputs numbers) answer outputs' numbers' →
+module _ (s : Shared) (addresses outputs numbers : List ℕ) {answer : Result Ledger Refusal} {outputs' numbers' : List ℕ} {high : Bool} where
+  pub raw_tells : (base : ℕ) (file : List ℕ) → high ≡ any_high (layout (raw base) file).banks →
+      BatchTells (batch_over (captured (raw base) file) false high s addresses outputs numbers) answer outputs' numbers' →
       BatchTells (batch (raw base) file s addresses outputs numbers) answer outputs' numbers'
   unfolding batch layout
-  raw_tells base file e h t = rw (raw_captured base file, raw_high base file) (rw (e, h) at t)
+  raw_tells base file h t = rw h at t
 
-  pub core_tells : {file words' : List ℕ} {f : Laid} (l : Lays file f words') (readable : f.readable ≡ true) →
-      BatchTells (batch_over (Calls.captured f.front (lent l readable) file) false f.high s addresses outputs numbers) answer outputs' numbers' →
+  pub core_tells : (file : List ℕ) → is_core file ≡ true → high ≡ any_high (banks file) →
+      BatchTells (batch_over (captured core file) false high s addresses outputs numbers) answer outputs' numbers' →
       BatchTells (batch core file s addresses outputs numbers) answer outputs' numbers'
-  unfolding batch
-  core_tells l readable t = rw (← laid_captured l readable, ← laid_high l readable, ← laid_readable l readable) t
+  unfolding batch layout
+  core_tells file e h t = rw e (rw h at t)
 
 -- one that is not accepted
 pub core_refused : (file : List ℕ) (s : Shared) (addresses outputs numbers : List ℕ) → is_core file ≡ false →
-    BatchTells (batch core file s addresses outputs numbers) (Refused CoreFile) outputs numbers
+    BatchTells (batch core file s addresses outputs numbers) (Err CoreFile) outputs numbers
 unfolding batch batch_over layout refuse pick
 core_refused file s addresses outputs numbers e = rw e (record { answered = refl; placed = refl; numbered = refl })

@@ -1,8 +1,9 @@
 -- A batch: one kind, EL and size, many addresses (01, What one question holds).
 -- Assumes nothing.
-use Rattle.std.specs.Prelude.{Bool, not, ◌||◌, List, [], ◌∷◌, map, ℕ, ltb, eqb, length}
+use Rattle.ledger.specs.declared.Ledger.{Ledger}
+use Rattle.answers.specs.declared.Refusal.{Refusal}
+use Rattle.std.specs.Prelude.{Bool, not, ◌||◌, List, [], ◌∷◌, map, ℕ, ltb, eqb, length, Option, Result, Ok, Err}
 use Rattle.reads.specs.Program.{Request}
-use Rattle.reads.specs.declared.Read.{Read}
 use Rattle.access.specs.declared.Access.{Access}
 use Rattle.capture.specs.Capture.{any_high}
 use Rattle.layout.specs.Layout.{Form, layout, captured}
@@ -15,8 +16,6 @@ use Rattle.answers.specs.Entries.{answer_of, output_of}
 use Rattle.answers.specs.declared.Refusal.TheVariants.{BatchLists}
 use Rattle.answers.specs.declared.Answer.{Answer}
 use Rattle.ledger.specs.Ledger.{ledger}
-use Rattle.batch.specs.declared.BatchAnswer.{BatchAnswer}
-use Rattle.batch.specs.declared.BatchAnswer.TheVariants.{Done, Refused}
 
 -- what all addresses of a batch share
 pub record Shared : Type 0 where
@@ -33,19 +32,19 @@ sharing r g kind el size = record { el2 = r; el1 = g; kind = kind; el = el; size
 abbrev pub access_to : Shared → (address : ℕ) → Access
 access_to s a = record { address = a; kind = s.kind; el = s.el; size = s.size }
 
-abbrev pub answer_to : (Request → Read) → Shared → (address : ℕ) → Answer
+abbrev pub answer_to : (Request → Option ℕ) → Shared → (address : ℕ) → Answer
 answer_to m s a = answer_of m (stage1 s.el2 s.el1) (stage2 s.el2) (access_to s a)
 
 -- ---- the batch's own answer: its number and its values. The table of answers has no number for a batch that ran; 0 is ours.
 
-abbrev pub batch_number : BatchAnswer → ℕ
-batch_number (Done l) = 0
-batch_number (Refused r) = refusal_number r
+abbrev pub batch_number : Result Ledger Refusal → ℕ
+batch_number (Ok l) = 0
+batch_number (Err r) = refusal_number r
 
 -- the ledger's figures, or a settings refusal's item
-abbrev pub batch_carries : BatchAnswer → List ℕ
-batch_carries (Done l) = l.asked ∷ l.translated ∷ l.faulted ∷ l.absent ∷ l.unsettled ∷ []
-batch_carries (Refused r) = item_of r
+abbrev pub batch_carries : Result Ledger Refusal → List ℕ
+batch_carries (Ok l) = l.asked ∷ l.translated ∷ l.faulted ∷ l.absent ∷ l.unsettled ∷ []
+batch_carries (Err r) = item_of r
 
 -- ---- the batch
 
@@ -62,17 +61,17 @@ batch_grounds unreadable high s asked outputs numbers =
 
 -- what a batch gives: its answer, and the two lent lists afterwards
 pub record BatchTold : Type 0 where
-  pub answer : BatchAnswer
+  pub answer : Result Ledger Refusal
   pub outputs : List ℕ
   pub numbers : List ℕ
 
 unfoldable pub answered : List Answer → BatchTold
-answered l = record { answer = Done (ledger (map number l)); outputs = map output_of l; numbers = map number l }
+answered l = record { answer = Ok (ledger (map number l)); outputs = map output_of l; numbers = map number l }
 
 -- the batch over a memory, that of a file that may be unreadable or have a bank that ends too high; a refused one writes nothing
-unfoldable pub batch_over : (Request → Read) → (unreadable high : Bool) → Shared → (addresses outputs numbers : List ℕ) → BatchTold
+unfoldable pub batch_over : (Request → Option ℕ) → (unreadable high : Bool) → Shared → (addresses outputs numbers : List ℕ) → BatchTold
 batch_over m unreadable high s addresses outputs numbers =
-    refuse (λ why. record { answer = Refused why; outputs = outputs; numbers = numbers })
+    refuse (λ why. record { answer = Err why; outputs = outputs; numbers = numbers })
     (batch_grounds unreadable high s (length addresses) (length outputs) (length numbers))
     (answered (map (answer_to m s) addresses))
 

@@ -1,35 +1,30 @@
 // A batch: many addresses with one kind, EL and size, each answered as the single question answers it.
-// Registers are decoded and stages prepared once. Both calls go through the addresses by `accesses::each` themselves: compiled into a
-// single caller, it would be slower.
+// Registers are decoded and stages prepared once.
 #![tactic(auto)]
 
-ghost use Rattle.std.specs.Prelude.{◌≡◌, false};
+ghost use Rattle.std.specs.Prelude.{◌≡◌, false, ℕ, Option, IfSome};
+ghost use Rattle.std.specs.Option.{is_none};
+ghost use Rattle.reads.specs.Program.{Request};
 ghost use Rattle.layout.specs.Layout.{raw, core};
-ghost use Rattle.answers.specs.Refusals.{verdict};
 ghost use Rattle.batch.specs.Batch as Batches;
 ghost use Rattle.batch.specs.Promises as Promises;
 
-use answers::{Refusal, Verdict};
+use answers::Refusal;
+use layout::memories;
 use ledger::Ledger;
+use reads::Memory;
 use registers::{El1, El2};
 
 // The addresses that a batch may have.
 pub const MOST: usize = 4096;
 
-// What a batch gives: its ledger, or its refusal.
-#[derive(Clone, Copy)]
-pub enum BatchAnswer {
-    Done(Ledger),
-    Refused(Refusal),
-}
-
-// The number of a batch's answer.
-pub fn number(a: BatchAnswer) -> u64
-    ensures { result ≡ Batches.batch_number a }
+// The number of what a batch is told: its ledger, or its refusal.
+pub fn number(told: Result<Ledger, Refusal>) -> u64
+    ensures { result ≡ Batches.batch_number told }
 {
-    match a {
-        BatchAnswer::Done(_) => 0,
-        BatchAnswer::Refused(why) => answers::refusal_number(why),
+    match told {
+        Ok(_) => 0,
+        Err(why) => answers::refusal_number(why),
     }
 }
 
@@ -40,27 +35,36 @@ fn unequal(asked: usize, outputs: usize, numbers: usize) -> bool
     (asked != outputs) | (asked != numbers) | (MOST < asked)
 }
 
-// Whether a batch over a file that is readable is refused: for its lists, and then for what a question is refused for too.
-fn verdict_of(
-    asked: usize,
-    outputs: usize,
-    numbers: usize,
-    high: bool,
+// The batch over the memory of a file that is readable, if it has one: no bank of it may end past 2^48. It is refused for its lists, and
+// then for what a question is refused for too.
+fn over<M: Memory + Copy>(
+    memory: Option<M>,
     r: El2,
     g: El1,
     kind: u64,
     el: u64,
     size: u64,
-) -> Verdict
-    ensures { result ≡ verdict (Batches.batch_grounds false high (Batches.sharing r g kind el size) asked outputs numbers) }
+    addresses: &[u64],
+    outputs: &mut [u64],
+    numbers: &mut [u64],
+) -> Result<Ledger, Refusal>
+    ensures { (m : Request → Option ℕ) → IfSome memory (λ v. M.finds v ≡ m) → Promises.BatchTells (Batches.batch_over m false (is_none memory) (Batches.sharing r g kind el size) addresses.now outputs.old numbers.old) result outputs.new numbers.new }
 {
-    if unequal(asked, outputs, numbers) {
-        return Verdict::Refused(Refusal::BatchLists);
+    if unequal(addresses.len(), outputs.len(), numbers.len()) {
+        return Err(Refusal::BatchLists);
     }
-    answers::shared_verdict(high, r, g, kind, el, size)
+    let memory = answers::accepted(memory, r, g, kind, el, size)?;
+    let mut log = [0u64; 24];
+    let p = regime::prepared1(r, g);
+    let q = regime::prepared2(r);
+    accesses::each(
+        &memory, p, q, kind, el, size, addresses, outputs, numbers, &mut log,
+    );
+    Ok(ledger::count(numbers))
 }
 
 // The batch over a raw capture, of which the first byte lies at base. Each address gets its answer's number, and its output address or 0.
+// It and `run_core` are two functions since C calls both: one takes a base, the other may be refused for its headers.
 pub fn run(
     bytes: &[u8],
     base: u64,
@@ -72,47 +76,21 @@ pub fn run(
     addresses: &[u64],
     outputs: &mut [u64],
     numbers: &mut [u64],
-) -> BatchAnswer
+) -> Result<Ledger, Refusal>
     ensures told { Promises.BatchTells (Batches.batch (raw base) bytes.now (Batches.sharing r g kind el size) addresses.now outputs.old numbers.old) result outputs.new numbers.new }
     ensures promised { Promises.Promised (raw base) bytes.now (Batches.sharing r g kind el size) addresses.now outputs.old numbers.old }
 {
-    let whole = capture::whole(base, bytes.len());
-    let high = capture::ends_high(base, bytes.len() as u64);
-    let none = [0u64; 1];
-    let verdict = verdict_of(
-        addresses.len(),
-        outputs.len(),
-        numbers.len(),
-        high,
+    over(
+        memories::raw(bytes, base),
         r,
         g,
         kind,
         el,
         size,
-    );
-    match verdict {
-        Verdict::Refused(why) => BatchAnswer::Refused(why),
-        Verdict::Accepted => {
-            let mut log = [0u64; 24];
-            let p = regime::prepared1(r, g);
-            let q = regime::prepared2(r);
-            accesses::each(
-                bytes,
-                whole,
-                &none[0..0],
-                p,
-                q,
-                kind,
-                el,
-                size,
-                addresses,
-                outputs,
-                numbers,
-                &mut log,
-            );
-            BatchAnswer::Done(ledger::count(numbers))
-        }
-    }
+        addresses,
+        outputs,
+        numbers,
+    )
 }
 
 // The batch over a core file.
@@ -126,49 +104,11 @@ pub fn run_core(
     addresses: &[u64],
     outputs: &mut [u64],
     numbers: &mut [u64],
-) -> BatchAnswer
+) -> Result<Ledger, Refusal>
     ensures told { Promises.BatchTells (Batches.batch core file.now (Batches.sharing r g kind el size) addresses.now outputs.old numbers.old) result outputs.new numbers.new }
     ensures promised { Promises.Promised core file.now (Batches.sharing r g kind el size) addresses.now outputs.old numbers.old }
 {
-    let mut words = [0u64; 192];
-    let laid = layout::lay_out(file, &mut words);
-    if !laid.readable {
-        return BatchAnswer::Refused(Refusal::CoreFile);
-    }
-    let end = 3 * laid.count;
-    let front = laid.front;
-    let verdict = verdict_of(
-        addresses.len(),
-        outputs.len(),
-        numbers.len(),
-        laid.high,
-        r,
-        g,
-        kind,
-        el,
-        size,
-    );
-    match verdict {
-        Verdict::Refused(why) => BatchAnswer::Refused(why),
-        Verdict::Accepted => {
-            let mut log = [0u64; 24];
-            let p = regime::prepared1(r, g);
-            let q = regime::prepared2(r);
-            accesses::each(
-                file,
-                front,
-                &words[0..end],
-                p,
-                q,
-                kind,
-                el,
-                size,
-                addresses,
-                outputs,
-                numbers,
-                &mut log,
-            );
-            BatchAnswer::Done(ledger::count(numbers))
-        }
-    }
+    let mut room = memories::NO_PARTS;
+    let memory = memories::core(file, &mut room).ok_or(Refusal::CoreFile)?;
+    over(memory, r, g, kind, el, size, addresses, outputs, numbers)
 }

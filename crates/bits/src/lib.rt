@@ -8,7 +8,7 @@ ghost use Rattle.bits.specs.Bits as Bits;
 pub fn bit(x: u64, i: u64) -> bool
     ensures { result ≡ Bits.bit x i }
 {
-    if i < 64 { (x >> i) % 2 == 1 } else { false }
+    i < 64 && (x >> i) % 2 == 1
 }
 
 // n bits of x, from bit low up.

@@ -3,8 +3,7 @@
 use Rattle.std.proofs.Common.{◌≡◌, ℕ, zero, suc, ◌+◌, ◌-◌, ◌<◌, ◌≤◌, Bool, true, false, leb, List, [], ◌∷◌, length, get_or, take, drop, sym, refl, ap, ◌∙◌, subst, ap₂, arith, get_or-drop, drop-cons, get_or-take, leb-true}
 use Rattle.bits.specs.Bits.{pick}
 use Rattle.reads.specs.Program.{Request, All, nil, cons}
-use Rattle.reads.specs.declared.Read.{Read}
-use Rattle.reads.specs.declared.Read.TheVariants.{Absent, Word}
+use Rattle.std.specs.Prelude.{Option, Some, None}
 use Rattle.bits.proofs.Tests.{and_left, and_right}
 use Rattle.reads.proofs.Laws.{SameGaps}
 use Rattle.capture.specs.Capture.{little, kept, bytes_of, within, word_at, memory, SameIn, SameBytes}
@@ -29,14 +28,14 @@ pub in_bounds : (base length a : ℕ) → within base length a ≡ true → (bas
 unfolding within
 in_bounds base length a h = (leb-true _ _ (and_left _ _ h), leb-true _ _ (and_right (leb base a) _ h))
 
-gap_on : (b : Bool) (x y : ℕ) (r r' : Read) → (r ≡ Absent → r' ≡ Absent) → pick b (Word x) r ≡ Absent → pick b (Word y) r' ≡ Absent
+gap_on : (b : Bool) (x y : ℕ) (r r' : Option ℕ) → (r ≡ None → r' ≡ None) → pick b (Some x) r ≡ None → pick b (Some y) r' ≡ None
 unfolding pick
 gap_on true x y r r' rest h = cc
 gap_on false x y r r' rest h = rest h
 
-word_on : (b : Bool) (x y : ℕ) (r r' : Read) → r ≡ r' → (b ≡ true → x ≡ y) → pick b (Word x) r ≡ pick b (Word y) r'
+word_on : (b : Bool) (x y : ℕ) (r r' : Option ℕ) → r ≡ r' → (b ≡ true → x ≡ y) → pick b (Some x) r ≡ pick b (Some y) r'
 unfolding pick
-word_on true x y r r' rest h = ap Word (h refl)
+word_on true x y r r' rest h = ap Some (h refl)
 word_on false x y r r' rest h = rest
 
 -- ---- the same parts of two files

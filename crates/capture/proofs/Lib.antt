@@ -3,4 +3,3 @@ pub mod Searches
 pub mod Sparse
 pub mod Bytewise
 pub mod Spelled
-pub mod Logs

@@ -1,17 +1,16 @@
 -- A search among parts that ascend: only the last that starts at or below an address may have a descriptor there.
 -- Assumes nothing.
-use Rattle.std.proofs.Common.{◌≡◌, ℕ, zero, suc, ◌+◌, ◌-◌, ◌<◌, ◌≤◌, Bool, true, false, ◌&&◌, ltb, leb, List, [], ◌∷◌, length, drop, sym, refl, ap, ◌∙◌, subst, true≢false, arith, length-drop, length-take-le, ltb-false, ltb-true, le-leb}
+use Rattle.std.proofs.Common.{◌≡◌, ℕ, zero, suc, ◌+◌, ◌-◌, ◌<◌, ◌≤◌, Bool, true, false, ◌&&◌, ltb, leb, List, [], ◌∷◌, length, get_or, drop, sym, refl, ◌∙◌, arith, length-drop, length-take-le, ltb-false, ltb-true, le-leb, All, AllPairs}
+use Rattle.std.specs.List.{AllWithin}
+use Rattle.std.proofs.lemmas.Option.{none-some, same_Some}
 use borrow.Author.Tests.{lt-leb}
 use Rattle.bits.specs.Bits.{pick}
 use Rattle.reads.specs.Program.{Request, Reader}
-use Rattle.reads.specs.declared.Read.{Read}
-use Rattle.reads.specs.declared.Read.TheVariants.{Absent, Word}
+use Rattle.std.specs.Prelude.{Option, Some, None}
 use Rattle.capture.specs.Capture.{kept, bytes_of, within, word_at, found, memory}
-use Rattle.capture.specs.Calls.{part_at, parts_from, count_of, parts_by, Lies, Ascending, Ordered, StartingBy, Inside, spelled, word_of, Placed}
+use Rattle.capture.specs.Calls.{Lies, Before, Ascending, Rising, StartingBy, spelled, spot_in, Placed}
 use Rattle.capture.specs.declared.Part.{Part}
 use Rattle.capture.specs.declared.Spot.{Spot}
-use Rattle.capture.specs.declared.Place.{Place}
-use Rattle.capture.specs.declared.Place.TheVariants.{Nowhere, At}
 
 -- a part has no descriptor at an address
 abbrev Misses : Part → ℕ → Type 0
@@ -32,47 +31,39 @@ ends_by p a h =
     by_test true = let k : p.address + kept p < a + 8 = omega (arith, h) in lt-leb _ _ k
     by_test false = refl
 
-module _ (words file : List ℕ) (q : Request) where
-  abbrev pub a : ℕ
+module _ (file : List ℕ) (q : Request) where
+  abbrev a : ℕ
   a = q.address
 
-  none : (i n : ℕ) → ((j : ℕ) → i ≤ j → j < i + n → Misses (part_at words j) a) → memory (parts_from words i n) file q ≡ Absent
-  unfolding memory parts_from pick
-  none i zero misses = refl
-  none i (suc n) misses = rw (misses i (omega arith) (omega arith)) (none (suc i) n (λ j h k. misses j (omega (arith, h)) (omega (arith, k))))
+  -- where no part has it, and where only one may
+  none : (l : List Part) → All (λ p. Misses p a) l → memory l file q ≡ None
+  unfolding memory pick
+  none [] misses = refl
+  none (p ∷ l) misses = rw (misses 0 p (omega arith)) (none l (λ j d h. misses (suc j) d (omega (arith, h))))
 
-  only : (i n k : ℕ) → i ≤ k → k < i + n → ((j : ℕ) → i ≤ j → j < k → Misses (part_at words j) a) →
-      ((j : ℕ) → k < j → j < i + n → Misses (part_at words j) a) → memory (parts_from words i n) file q ≡ memory (part_at words k ∷ []) file q
-  unfolding memory parts_from pick
-  only i zero k h less before after = absurd (omega (arith, h, less))
-  only i (suc n) k h less before after =
-      by_place (ltb i k) refl
-      (λ more. only (suc i) n k (omega (arith, more)) (omega (arith, less)) (λ j u v. before j (omega (arith, u)) v) (λ j u v. after j u (omega (arith, v))))
-    where
-      by_place : (t : Bool) → ltb i k ≡ t → (i < k → memory (parts_from words (suc i) n) file q ≡ memory (part_at words k ∷ []) file q) →
-          memory (parts_from words i (suc n)) file q ≡ memory (part_at words k ∷ []) file q
-      by_place true e rest =
-          let more : i < k = ltb-true _ _ e in
-          rw (before i (omega arith) more) (rest more)
-      by_place false e rest =
-          let last : k ≤ i = ltb-false _ _ e in
-          let same : k ≡ i = omega (arith, last, h) in
-          rw (same, none (suc i) n (λ j u v. after j (omega (arith, u, last)) (omega (arith, v))))
+  only : (l : List Part) (k : ℕ) (d : Part) → k < length l → AllWithin (λ p. Misses p a) l 0 k → AllWithin (λ p. Misses p a) l (suc k) (length l) →
+      memory l file q ≡ memory (get_or l k d ∷ []) file q
+  unfolding memory pick
+  only [] k d h before after = absurd (omega (arith, h))
+  only (p ∷ l) zero d h before after = rw (none l (λ j e h. after (suc j) e (omega arith) (omega (arith, h))))
+  only (p ∷ l) (suc k) d h before after =
+      rw (before 0 p (omega arith) (omega arith))
+      (only l k d (omega (arith, h)) (λ j e u v. before (suc j) e (omega arith) (omega (arith, v))) (λ j e u v. after (suc j) e (omega (arith, u)) (omega (arith, v))))
 
-  module _ (k : ℕ) (s : StartingBy words a k) where
-    pub none_starts : k ≡ 0 → memory (parts_by words) file q ≡ Absent
-    none_starts e = none 0 (count_of words) (λ j h less. starts_above (part_at words j) a (s.above j (omega (arith, e)) (omega (arith, less))))
+  module _ (l : List Part) (k : ℕ) (s : StartingBy l a k) where
+    none_starts : k ≡ 0 → memory l file q ≡ None
+    none_starts e = none l (λ j d h. starts_above (get_or l j d) a (s.split.1 j d (omega (arith, e)) h))
 
     -- the last that starts at or below it
-    pub last_starts : Ascending words (length file) → 0 < k → memory (parts_by words) file q ≡ memory (part_at words (k - 1) ∷ []) file q
-    last_starts o some =
-        let inside : k - 1 < count_of words = omega (arith, s.within, some) in
-        only 0 (count_of words) (k - 1) (omega arith) (omega (arith, inside))
-        (λ j h less. ends_by (part_at words j) a
-        (let x = o.order j (k - 1) less inside in
-        let y = s.below (k - 1) (omega (arith, some)) in
+    last_starts : AllPairs Before l → 0 < k → (d : Part) → memory l file q ≡ memory (get_or l (k - 1) d ∷ []) file q
+    last_starts o some d =
+        let inside : k - 1 < length l = omega (arith, s.within, some) in
+        only l (k - 1) d inside
+        (λ j e u less. ends_by (get_or l j e) a
+        (let x = o j (k - 1) e less inside in
+        let y = s.split.0 (k - 1) e (omega arith) (omega (arith, some)) in
         omega (arith, x, y)))
-        (λ j h less. starts_above (part_at words j) a (s.above j (omega (arith, h, some)) (omega (arith, less))))
+        (λ j e h less. starts_above (get_or l j e) a (s.split.1 j e (omega (arith, h, some)) less))
 
 -- the bytes of a part are as many as it keeps
 pub kept_bytes : (p : Part) (file : List ℕ) → Lies (length file) p → length (bytes_of p file) ≡ kept p
@@ -85,33 +76,33 @@ alone p file l q = rw (kept_bytes p file l)
 
 -- a descriptor that the first part has, and one that it has not
 module _ (p : Part) (l : List Part) (file : List ℕ) (q : Request) where
-  has_by : (b : Bool) (x y : ℕ) (elsewhere : Read) → pick b (Word y) Absent ≡ Word x → Word x ≡ pick b (Word y) elsewhere
+  has_by : (b : Bool) (x y : ℕ) (elsewhere : Option ℕ) → pick b (Some y) None ≡ Some x → Some x ≡ pick b (Some y) elsewhere
   unfolding pick
   has_by true x y elsewhere h = sym h
   has_by false x y elsewhere h = cc
 
-  lacks_by : (b : Bool) (y : ℕ) (elsewhere : Read) → pick b (Word y) Absent ≡ Absent → elsewhere ≡ pick b (Word y) elsewhere
+  lacks_by : (b : Bool) (y : ℕ) (elsewhere : Option ℕ) → pick b (Some y) None ≡ None → elsewhere ≡ pick b (Some y) elsewhere
   unfolding pick
   lacks_by true y elsewhere h = cc
   lacks_by false y elsewhere h = refl
 
-  pub front_has : {x : ℕ} → memory (p ∷ []) file q ≡ Word x → Word x ≡ memory (p ∷ l) file q
+  pub front_has : {x : ℕ} → memory (p ∷ []) file q ≡ Some x → Some x ≡ memory (p ∷ l) file q
   unfolding memory
   front_has {x} h = has_by (within p.address (kept p) q.address) x _ _ h
 
-  pub front_lacks : memory (p ∷ []) file q ≡ Absent → memory l file q ≡ memory (p ∷ l) file q
+  pub front_lacks : memory (p ∷ []) file q ≡ None → memory l file q ≡ memory (p ∷ l) file q
   unfolding memory
   front_lacks h = lacks_by (within p.address (kept p) q.address) _ _ h
 
 -- a part that starts at or below an address has the descriptor there if enough of it is left
 module _ (p : Part) (file : List ℕ) (q : Request) (starts : p.address ≤ q.address) where
-  pub part_has : q.address - p.address + 8 ≤ kept p → Word (word_at p.address (bytes_of p file) q.address) ≡ memory (p ∷ []) file q
+  pub part_has : q.address - p.address + 8 ≤ kept p → Some (word_at p.address (bytes_of p file) q.address) ≡ memory (p ∷ []) file q
   unfolding memory within pick
   part_has room =
       let ends : q.address + 8 ≤ p.address + kept p = omega (arith, starts, room) in
       rw (le-leb _ _ starts, le-leb _ _ ends)
 
-  pub part_lacks : kept p < q.address - p.address + 8 → Absent ≡ memory (p ∷ []) file q
+  pub part_lacks : kept p < q.address - p.address + 8 → None ≡ memory (p ∷ []) file q
   unfolding memory within pick
   part_lacks short =
       let ends : p.address + kept p < q.address + 8 = omega (arith, starts, short) in
@@ -119,53 +110,52 @@ module _ (p : Part) (file : List ℕ) (q : Request) (starts : p.address ≤ q.ad
 
 -- ---- where a descriptor stands
 
-spot_of : Place → Spot
-spot_of Nowhere = record { from = 0; to = 0; at = 0 }
-spot_of (At s) = s
+-- of parts of which only one may have it
+placed_in : (parts : List Part) (file : List ℕ) (address : ℕ) (p : Part) → Lies (length file) p → p.address ≤ address →
+    ((reader : Reader) → memory parts file (record { reader = reader; address = address }) ≡ memory (p ∷ []) file (record { reader = reader; address = address })) →
+    Placed parts file address (spot_in p address)
+unfolding pick
+placed_in parts file address p lies starts only = by_test (ltb (address - p.address) (kept p - 7)) refl
+  where
+    by_test : (t : Bool) → ltb (address - p.address) (kept p - 7) ≡ t →
+        Placed parts file address (pick t (Some (record { from = p.from; to = p.to; at = address - p.address })) None)
+    by_test true e =
+        let room : address - p.address + 8 ≤ kept p = omega (arith, ltb-true _ _ e) in
+        record {
+          inside = λ s i. rw (← same_Some _ _ i) (record { order = lies.order; within = lies.inside; room = room });
+          holds = λ reader. part_has p file _ starts room ∙ sym (only reader);
+        }
+    by_test false e =
+        record {
+          inside = λ s n. absurd (none-some _ n);
+          holds = λ reader. part_lacks p file _ starts (omega (arith, ltb-false _ _ e)) ∙ sym (only reader);
+        }
 
-is_at : Place → Bool
-is_at Nowhere = false
-is_at (At s) = true
+module _ {parts : List Part} {address k : ℕ} (s : StartingBy parts address k) (file : List ℕ) (o : Ascending parts (length file)) where
+  pub none_placed : k ≡ 0 → Placed parts file address None
+  none_placed e = record { inside = λ s n. absurd (none-some _ n); holds = λ reader. sym (none_starts file _ parts k s e) }
 
-module _ {words file : List ℕ} {address : ℕ} where
-  pub placed_nowhere : ((reader : Reader) → Absent ≡ memory (parts_by words) file (record { reader = reader; address = address })) → Placed words file address Nowhere
-  unfolding is_at word_of
-  placed_nowhere h = record { inside = λ s e. absurd (true≢false (sym (ap is_at e))); holds = h }
-
-  pub placed_at : (s : Spot) → Inside (length file) s →
-      ((reader : Reader) → Word (spelled file s) ≡ memory (parts_by words) file (record { reader = reader; address = address })) →
-      Placed words file address (At s)
-  unfolding spot_of word_of
-  placed_at s i h = record { inside = λ t e. subst (Inside (length file)) (ap spot_of e) i; holds = h }
-
--- by the last part that starts at or below the address
-module _ {words : List ℕ} {address k : ℕ} (s : StartingBy words address k) (some : 0 < k) where
-  pub last : k - 1 < count_of words
-  last = omega (arith, s.within, some)
-
-  pub starts : (part_at words (k - 1)).address ≤ address
-  starts = s.below (k - 1) (omega (arith, some))
-
-  module _ (file : List ℕ) (o : Ascending words (length file)) where
-    pub spot_lacks : kept (part_at words (k - 1)) < address - (part_at words (k - 1)).address + 8 → Placed words file address Nowhere
-    spot_lacks short = placed_nowhere (λ reader. part_lacks _ file _ starts short ∙ sym (last_starts words file _ k s o some))
-
-    pub spot_has : address - (part_at words (k - 1)).address + 8 ≤ kept (part_at words (k - 1)) →
-        Placed words file address (At (record { from = (part_at words (k - 1)).from; to = (part_at words (k - 1)).to; at = address - (part_at words (k - 1)).address }))
-    spot_has room =
-        let l = o.lie (k - 1) last in
-        placed_at _ (record { order = l.order; within = l.inside; room = room }) (λ reader. part_has (part_at words (k - 1)) file _ starts room ∙ sym (last_starts words file _ k s o some))
+  -- by the last part that starts at or below the address
+  pub last_placed : 0 < k → (d : Part) → Placed parts file address (spot_in (get_or parts (k - 1) d) address)
+  last_placed some d =
+      placed_in parts file address (get_or parts (k - 1) d) (o.lie (k - 1) d (omega (arith, s.within, some)))
+      (s.split.0 (k - 1) d (omega arith) (omega (arith, some)))
+      (λ reader. last_starts file _ parts k s o.order some d)
 
 -- parts that ascend may be searched
-pub ordered : {words : List ℕ} {length : ℕ} → Ascending words length → Ordered words
-ordered o = record { starts = λ i j less inside. omega (arith, o.order i j less inside); parts = λ i less. (o.lie i less).order }
+pub rising : {parts : List Part} {n : ℕ} → Ascending parts n → Rising parts
+rising {parts} o = λ i j d at inside. by_place i j d inside (ltb i j) refl at
+  where
+    by_place : (i j : ℕ) (d : Part) → j < length parts → (t : Bool) → ltb i j ≡ t → i ≤ j → (get_or parts i d).address ≤ (get_or parts j d).address
+    by_place i j d inside true e at = omega (arith, o.order i j d (ltb-true _ _ e) inside)
+    by_place i j d inside false e at =
+        let same : i ≡ j = omega (arith, ltb-false _ _ e) in
+        rw same (omega arith)
 
 -- what a place says of the parts
-module _ {words file : List ℕ} {address : ℕ} {p : Place} (placed : Placed words file address p) where
-  pub none_placed : p ≡ Nowhere → (reader : Reader) → Absent ≡ memory (parts_by words) file (record { reader = reader; address = address })
-  unfolding word_of
-  none_placed e reader = rw e at (placed.holds reader)
+module _ {parts : List Part} {file : List ℕ} {address : ℕ} {p : Option Spot} (placed : Placed parts file address p) where
+  pub nowhere : p ≡ None → (reader : Reader) → None ≡ memory parts file (record { reader = reader; address = address })
+  nowhere e reader = rw e at (placed.holds reader)
 
-  pub one_placed : {s : Spot} → p ≡ At s → (reader : Reader) → Word (spelled file s) ≡ memory (parts_by words) file (record { reader = reader; address = address })
-  unfolding word_of
-  one_placed e reader = rw e at (placed.holds reader)
+  pub at_spot : {s : Spot} → p ≡ Some s → (reader : Reader) → Some (spelled file s) ≡ memory parts file (record { reader = reader; address = address })
+  at_spot e reader = rw e at (placed.holds reader)

@@ -6,7 +6,7 @@ use native.Mathlib.Nat.{div-div-eq-div-mul, mod-one}
 use lib.Arith.{mod-mul}
 use Rattle.bits.specs.Bits.{pick}
 use Rattle.reads.specs.Program.{Request}
-use Rattle.reads.specs.declared.Read.TheVariants.{Absent, Word}
+use Rattle.std.specs.Prelude.{Some, None}
 use Rattle.capture.specs.Capture.{little, within, memory}
 use Rattle.capture.proofs.Bytewise.{in_bounds}
 use Rattle.capture.specs.declared.Part.{Part}
@@ -68,14 +68,14 @@ unfolding sparse memory pick
 sparse_memory base length ws = fun_ext (λ q. let e : length - 0 ≡ length = omega arith in rw e (by_test q (within base length q.address) refl))
   where
     by_test : (q : Request) (b : Bool) → within base length q.address ≡ b →
-        pick b (Word (descriptor_at ws q.address)) Absent
-        ≡ pick b (Word (little (take 8 (drop (q.address - base) (take length (image ws base length)))))) Absent
+        pick b (Some (descriptor_at ws q.address)) None
+        ≡ pick b (Some (little (take 8 (drop (q.address - base) (take length (image ws base length)))))) None
     by_test q true e =
         let h = in_bounds base length q.address e in
         let k : q.address - base ≤ length = omega arith in
         let room : 8 ≤ length - (q.address - base) = omega arith in
         let at : base + (q.address - base) ≡ q.address = omega arith in
         rw (take_image ws length base length (omega arith))
-        (ap Word (word_spelled ws q.address ∙ sym (ap (λ l. little (take 8 l)) (drop_image ws (q.address - base) base length k)
+        (ap Some (word_spelled ws q.address ∙ sym (ap (λ l. little (take 8 l)) (drop_image ws (q.address - base) base length k)
         ∙ ap little (take_image ws 8 (base + (q.address - base)) (length - (q.address - base)) room) ∙ ap (λ z. little (image ws z 8)) at)))
     by_test q false e = refl

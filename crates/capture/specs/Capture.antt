@@ -1,12 +1,11 @@
 -- A capture as a memory of descriptors: a file's bytes, of which banks stand at physical addresses (02, §1).
 -- A raw capture is one bank that is the whole file.
 -- Assumes nothing.
-use Rattle.std.specs.Prelude.{◌≡◌, ℕ, ◌+◌, ◌-◌, ◌*◌, ◌^◌, ◌<◌, ◌≤◌, Bool, false, ◌&&◌, ◌||◌, List, [], ◌∷◌, length, take, drop, nat_le, nat_lt, slice_index}
+use Rattle.std.specs.Prelude.{◌≡◌, ℕ, ◌+◌, ◌-◌, ◌*◌, ◌^◌, ◌<◌, ◌≤◌, Bool, false, ◌&&◌, ◌||◌, List, [], ◌∷◌, length, take, drop, nat_le, nat_lt, slice_index, Option, Some, None}
 use Rattle.bits.specs.Bits.{pick}
 use Rattle.reads.specs.Program.{Request, All}
-use Rattle.reads.specs.declared.Read.{Read}
-use Rattle.reads.specs.declared.Read.TheVariants.{Absent, Word}
 use Rattle.capture.specs.declared.Part.{Part}
+use Rattle.capture.specs.declared.Bank.{Bank}
 
 -- the number that bytes spell, little-endian (01, Walk, descriptors)
 unfoldable pub little : List ℕ → ℕ
@@ -14,12 +13,6 @@ little [] = 0
 little (b ∷ l) = b + 256 * little l
 
 -- ---- banks
-
--- a bank as its header says it: the physical address of its first byte, where that byte stands in the file, and how many there are
-pub record Bank : Type 0 where
-  pub address : ℕ
-  pub offset : ℕ
-  pub size : ℕ
 
 abbrev pub least : ℕ → ℕ → ℕ
 least a b = pick (nat_le a b) a b
@@ -54,14 +47,14 @@ within base length a = nat_le base a && nat_le (a + 8) (base + length)
 abbrev pub word_at : (base : ℕ) → List ℕ → (address : ℕ) → ℕ
 word_at base bytes a = little (take 8 (drop (a - base) bytes))
 
-abbrev pub found : (base : ℕ) → List ℕ → (address : ℕ) → Read
-found base bytes a = pick (within base (length bytes) a) (Word (word_at base bytes a)) Absent
+abbrev pub found : (base : ℕ) → List ℕ → (address : ℕ) → Option ℕ
+found base bytes a = pick (within base (length bytes) a) (Some (word_at base bytes a)) None
 
 -- in parts of a file: in the first that has all of it, absent if none has (02, §1)
-unfoldable pub memory : List Part → (file : List ℕ) → Request → Read
-memory [] file q = Absent
+unfoldable pub memory : List Part → (file : List ℕ) → Request → Option ℕ
+memory [] file q = None
 memory (p ∷ l) file q =
-    pick (within p.address (kept p) q.address) (Word (word_at p.address (bytes_of p file) q.address)) (memory l file q)
+    pick (within p.address (kept p) q.address) (Some (word_at p.address (bytes_of p file) q.address)) (memory l file q)
 
 -- two files have the same bytes from an address on, n of them, as far as a part has them
 abbrev pub SameIn : (file file' : List ℕ) (address n : ℕ) → Part → Type 0

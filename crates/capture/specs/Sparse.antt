@@ -1,11 +1,9 @@
 -- Captures that are zero but for some words, as 01, Cases, gives its own: their bytes, and a memory that computes quickly.
 -- `sparse_memory` says that it is the memory of those bytes.
 -- Assumes nothing.
-use Rattle.std.specs.Prelude.{ℕ, zero, suc, ◌*◌, ◌/◌, ◌%◌, ◌^◌, List, [], ◌∷◌, ◌==◌}
+use Rattle.std.specs.Prelude.{ℕ, zero, suc, ◌*◌, ◌/◌, ◌%◌, ◌^◌, List, [], ◌∷◌, ◌==◌, Option, Some, None}
 use Rattle.bits.specs.Bits.{pick}
 use Rattle.reads.specs.Program.{Request}
-use Rattle.reads.specs.declared.Read.{Read}
-use Rattle.reads.specs.declared.Read.TheVariants.{Absent, Word}
 use Rattle.capture.specs.Capture.{little, within}
 
 -- the word listed for an address, the first where there are several, else 0
@@ -26,5 +24,5 @@ image ws a (suc n) = byte_at ws a ∷ image ws (suc a) n
 unfoldable pub descriptor_at : List (ℕ × ℕ) → ℕ → ℕ
 descriptor_at ws a = pick (a % 8 == 0) (word_at ws a % 2 ^ 64) (little (image ws a 8))
 
-unfoldable pub sparse : (base length : ℕ) → List (ℕ × ℕ) → Request → Read
-sparse base length ws q = pick (within base length q.address) (Word (descriptor_at ws q.address)) Absent
+unfoldable pub sparse : (base length : ℕ) → List (ℕ × ℕ) → Request → Option ℕ
+sparse base length ws q = pick (within base length q.address) (Some (descriptor_at ws q.address)) None

@@ -6,7 +6,15 @@ ghost use Rattle.reads.specs.Program.{Reader};
 ghost use Rattle.capture.specs.Capture as Captures;
 ghost use Rattle.capture.specs.Calls as Calls;
 
-use reads::Read;
+pub mod view;
+
+// A bank as its header says it: the physical address of its first byte, where that byte stands in the file, and how many there are.
+#[derive(Clone, Copy)]
+pub struct Bank {
+    pub address: u64,
+    pub offset: u64,
+    pub size: u64,
+}
 
 // What a file has of a bank: its bytes from one place to before another, which stand at a physical address.
 #[derive(Clone, Copy)]
@@ -32,20 +40,67 @@ pub struct Spot {
     pub at: usize,
 }
 
-#[derive(Clone, Copy)]
-pub enum Place {
-    Nowhere,
-    At(Spot),
+impl Bank {
+    // What a file of some bytes has of it. A sum that would wrap is past the end of any file.
+    pub fn part(self, length: u64) -> Part
+        ensures { result ≡ Captures.part length self }
+    {
+        let from = self.offset.min(length);
+        let to = self.offset.saturating_add(self.size).min(length);
+        Part {
+            address: self.address,
+            from: from as usize,
+            to: to as usize,
+        }
+    }
 }
 
-// A byte as a word.
-fn wide(x: u8) -> u64
-    ensures { (result ≡ x) × (result < 256) }
+impl Part {
+    // How many bytes of its bank the file has.
+    pub fn kept(self) -> u64
+        ensures { result ≡ Captures.kept self }
+    {
+        self.to.saturating_sub(self.from) as u64
+    }
+
+    // The descriptor at a physical address no lower than the part's, if all eight bytes are in the part.
+    fn spot(self, address: u64) -> Option<Spot>
+        requires { self.address ≤ address }
+        ensures { result ≡ Calls.spot_in self address }
+    {
+        let at = address - self.address;
+        if at < self.kept().saturating_sub(7) {
+            Some(Spot {
+                from: self.from,
+                to: self.to,
+                at: at as usize,
+            })
+        } else {
+            None
+        }
+    }
+}
+
+impl Front {
+    // A part as the one in front.
+    pub fn new(part: Part) -> Front
+        ensures { result ≡ Calls.ahead part }
+    {
+        Front {
+            part,
+            back: 0u64.wrapping_sub(part.address),
+        }
+    }
+}
+
+// Some bytes at an address end past 2^48. A sum that would wrap does too.
+pub fn ends_high(address: u64, size: u64) -> bool
+    ensures { result ≡ Captures.ends_high address size }
 {
-    x as u64
+    address.saturating_add(size) > 0x1_0000_0000_0000
 }
 
-// The eight bytes from a place on as a word, the least first. A sum and no loop, so that it compiles to one load.
+// The eight bytes from a place on as a word, the least first. It compiles to one load.
 pub fn word(bytes: &[u8], i: usize) -> u64
     requires { i + 8 ≤ length bytes.now }
     ensures { let byte = slice_index_or bytes.now in
@@ -53,52 +108,35 @@ pub fn word(bytes: &[u8], i: usize) -> u64
         + byte (i + 4) 0 * 0x1_0000_0000 + byte (i + 5) 0 * 0x100_0000_0000 + byte (i + 6) 0 * 0x1_0000_0000_0000
         + byte (i + 7) 0 * 0x100_0000_0000_0000 }
 {
-    wide(bytes[i])
-        + wide(bytes[i + 1]) * 0x100
-        + wide(bytes[i + 2]) * 0x1_0000
-        + wide(bytes[i + 3]) * 0x100_0000
-        + wide(bytes[i + 4]) * 0x1_0000_0000
-        + wide(bytes[i + 5]) * 0x100_0000_0000
-        + wide(bytes[i + 6]) * 0x1_0000_0000_0000
-        + wide(bytes[i + 7]) * 0x100_0000_0000_0000
-}
-
-// At how many places of n bytes eight of them start.
-fn places(n: u64) -> u64
-    ensures { result ≡ n - 7 }
-{
-    if n < 8 { 0 } else { n - 7 }
-}
-
-// A part as the one in front.
-pub fn ahead(part: Part) -> Front
-    ensures { result ≡ Calls.ahead part }
-{
-    Front {
-        part,
-        back: std::num::wrapping_sub_u64(0, part.address),
-    }
+    u64::from_le_bytes([
+        bytes[i],
+        bytes[i + 1],
+        bytes[i + 2],
+        bytes[i + 3],
+        bytes[i + 4],
+        bytes[i + 5],
+        bytes[i + 6],
+        bytes[i + 7],
+    ])
 }
 
 // The descriptor at a physical address of the bytes that stand at base. One comparison tells whether all eight are there: below base
 // the difference wraps to 2^64 - base or more, which is no less than the number of bytes.
-fn read_bytes(bytes: &[u8], base: u64, back: u64, address: u64) -> Read
+fn read_bytes(bytes: &[u8], base: u64, back: u64, address: u64) -> Option<u64>
     requires { (base + length bytes.now ≤ 2 ^ 64) × (back ≡ Calls.back_of base) }
     ensures { result ≡ Captures.found base bytes.now address }
 {
-    let n = bytes.len() as u64;
-    let room = places(n);
-    let at = std::num::wrapping_sub_u64(address, base);
-    if at < room {
-        let place = std::num::wrapping_add_u64(address, back);
-        Read::Word(word(bytes, place as usize))
-    } else {
-        Read::Absent
+    let room = (bytes.len() as u64).saturating_sub(7);
+    let at = address.wrapping_sub(base);
+    if at >= room {
+        return None;
     }
+    let place = address.wrapping_add(back);
+    Some(word(bytes, place as usize))
 }
 
 // The descriptor at a physical address, if the part in front has it.
-fn read_front(file: &[u8], front: Front, address: u64) -> Read
+fn read_front(file: &[u8], front: Front, address: u64) -> Option<u64>
     requires { Calls.Leads (length file.now) front }
     ensures { (reader : Reader) →
         result ≡ Captures.memory (front.part ∷ []) file.now (record { reader = reader; address = address }) }
@@ -110,45 +148,20 @@ fn read_front(file: &[u8], front: Front, address: u64) -> Read
 }
 
 // How many parts start at or below an address. They ascend, so that each step halves the search.
-fn starting_by(parts: &[u64], address: u64) -> usize
+fn starting_by(parts: &[Part], address: u64) -> usize
     requires { Calls.Rising parts.now }
     ensures { Calls.StartingBy parts.now address result }
 {
-    let mut low = 0;
-    let mut high = parts.len() / 3;
-    while low < high {
-        let middle = low + (high - low) / 2;
-        if parts[3 * middle] <= address {
-            low = middle + 1;
-        } else {
-            high = middle;
-        }
-    }
-    low
+    parts.partition_point(|p| p.address <= address)
 }
 
 // Where the descriptor at a physical address stands: in the only part that may have it, the last that starts at or below it.
-fn find(parts: &[u64], address: u64) -> Place
-    requires { Calls.Ordered parts.now }
+fn find(parts: &[Part], address: u64) -> Option<Spot>
+    requires { Calls.Rising parts.now }
     ensures { (file : List ℕ) → Calls.Ascending parts.now (length file) → Calls.Placed parts.now file address result }
 {
-    let count = starting_by(parts, address);
-    if count == 0 {
-        return Place::Nowhere;
-    }
-    let i = 3 * (count - 1);
-    let from = parts[i + 1] as usize;
-    let to = parts[i + 2] as usize;
-    let n = to - from;
-    if n < 8 {
-        return Place::Nowhere;
-    }
-    let at = (address - parts[i]) as usize;
-    if at < n - 7 {
-        Place::At(Spot { from, to, at })
-    } else {
-        Place::Nowhere
-    }
+    let last = starting_by(parts, address).checked_sub(1)?;
+    parts[last].spot(address)
 }
 
 // The descriptor that stands there.
@@ -161,115 +174,12 @@ fn word_at(file: &[u8], s: Spot) -> u64
     word(&file[from..to], s.at)
 }
 
-// The descriptor at a physical address, if a part by words has it.
-fn read_parts(file: &[u8], parts: &[u64], address: u64) -> Read
+// The descriptor at a physical address, if one of some parts has it.
+fn read_parts(file: &[u8], parts: &[Part], address: u64) -> Option<u64>
     requires { Calls.Ascending parts.now (length file.now) }
     ensures { (reader : Reader) →
-        result ≡ Captures.memory (Calls.parts_by parts.now) file.now (record { reader = reader; address = address }) }
+        result ≡ Captures.memory parts.now file.now (record { reader = reader; address = address }) }
 {
-    let place = find(parts, address);
-    match place {
-        Place::Nowhere => Read::Absent,
-        Place::At(s) => Read::Word(word_at(file, s)),
-    }
-}
-
-// The descriptor at a physical address. The part in front is tried before the others are searched, so that a capture of one bank costs
-// one comparison for each descriptor.
-pub fn read(file: &[u8], front: Front, parts: &[u64], address: u64) -> Read
-    requires { Calls.Held front parts.now file.now }
-    ensures { (reader : Reader) →
-        result ≡ Calls.captured front parts.now file.now (record { reader = reader; address = address }) }
-{
-    let found = read_front(file, front, address);
-    match found {
-        Read::Word(x) => Read::Word(x),
-        Read::Absent => read_parts(file, parts, address),
-    }
-}
-
-// The same for a walk: the address of a descriptor that is there goes into the log. The front's word is read before that and another
-// part's after it: alike, their reads would be compiled as one, which a walk in the front part would reach by a jump.
-pub fn read_logged(
-    file: &[u8],
-    front: Front,
-    parts: &[u64],
-    address: u64,
-    log: &mut [u64],
-    k: usize,
-) -> Read
-    requires { Calls.Held front parts.now file.now × (k < length log.old) }
-    ensures { ((reader : Reader) →
-        result ≡ Calls.captured front parts.now file.now (record { reader = reader; address = address }))
-        × (log.new ≡ Calls.logged result log.old k address) }
-{
-    let found = read_front(file, front, address);
-    match found {
-        Read::Word(x) => {
-            log[k] = address;
-            Read::Word(x)
-        }
-        Read::Absent => {
-            let place = find(parts, address);
-            match place {
-                Place::Nowhere => Read::Absent,
-                Place::At(s) => {
-                    log[k] = address;
-                    Read::Word(word_at(file, s))
-                }
-            }
-        }
-    }
-}
-
-// What a file of some bytes has of a bank. No sum wraps.
-pub fn of_bank(length: u64, address: u64, offset: u64, size: u64) -> Part
-    ensures { result ≡ Captures.part length (record { address = address; offset = offset; size = size }) }
-{
-    let from = least(offset, length);
-    let left = length - from;
-    let to = from + least(size, left);
-    Part {
-        address,
-        from: from as usize,
-        to: to as usize,
-    }
-}
-
-// How many bytes of a bank that is.
-pub fn kept(p: Part) -> u64
-    ensures { result ≡ Captures.kept p }
-{
-    let from = p.from;
-    let to = p.to;
-    if from <= to { (to - from) as u64 } else { 0 }
-}
-
-// The whole of a file that stands at an address, in front.
-pub fn whole(address: u64, length: usize) -> Front
-    ensures { result ≡ Calls.ahead (record { address = address; from = 0; to = length }) }
-{
-    ahead(Part {
-        address,
-        from: 0,
-        to: length,
-    })
-}
-
-fn least(a: u64, b: u64) -> u64
-    ensures { result ≡ Captures.least a b }
-{
-    if a <= b { a } else { b }
-}
-
-// A bank's end lies past 2^48. No sum wraps.
-pub fn ends_high(address: u64, size: u64) -> bool
-    ensures { result ≡ Captures.ends_high address size }
-{
-    let top = 0x1_0000_0000_0000;
-    if address <= top {
-        top - address < size
-    } else {
-        true
-    }
+    let spot = find(parts, address)?;
+    Some(word_at(file, spot))
 }

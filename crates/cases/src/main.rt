@@ -2,12 +2,14 @@
 #![tactic(auto)]
 
 use access::Access;
+use answers::{Answer, Refusal};
+use print::{Reads, Shown};
 use registers::hcr::Hcr;
 use registers::sctlr::Sctlr;
 use registers::tcr::Tcr;
 use registers::vtcr::Vtcr;
 use registers::{El1, El2};
-use std::io;
+use std::{fmt, io};
 
 mod audits;
 mod cores;
@@ -52,243 +54,294 @@ fn access(address: u64, kind: u64, el: u64) -> Access {
     }
 }
 
-// One question, its answer and its log in a line.
-fn ask(
-    rt: &impl Print,
-    name: &[u8],
-    bytes: &[u8],
+// Memory from a base on.
+#[derive(Clone, Copy)]
+struct Capture<'a> {
     base: u64,
-    r: El2,
-    g: El1,
-    a: Access,
-) -> io::Result<()> {
-    let mut log = [0u64; 24];
-    print::text(rt, name)?;
-    let answer = question::translate(bytes, base, r, g, a, &mut log);
-    print::answer(rt, answer)?;
-    print::log(rt, &log)?;
-    print::text(rt, b"\n")
+    bytes: &'a [u8],
 }
 
-// The same with one word of the capture written over.
-fn ask_with(
-    rt: &impl Print,
-    name: &[u8],
-    at: usize,
-    word: u64,
-    r: El2,
-    g: El1,
-    a: Access,
-) -> io::Result<()> {
-    let mut bytes = [0u8; 0x8000];
-    image::fill(&mut bytes);
-    image::put(&mut bytes, at, word);
-    ask(rt, name, &bytes, BASE, r, g, a)
-}
-
-// The same with the capture as it is, or cut short.
-fn ask_first(
-    rt: &impl Print,
-    name: &[u8],
-    length: usize,
-    r: El2,
-    g: El1,
-    a: Access,
-) -> io::Result<()> {
-    let mut bytes = [0u8; 0x8000];
-    image::fill(&mut bytes);
-    if length <= 0x8000 {
-        ask(rt, name, &bytes[..length], BASE, r, g, a)?;
+impl<'a> Capture<'a> {
+    fn at(base: u64, bytes: &'a [u8]) -> Self {
+        Capture { base, bytes }
     }
-    Ok(())
+}
+
+// A guest's access, and the registers that it goes by.
+#[derive(Clone, Copy)]
+struct Question {
+    host: El2,
+    guest: El1,
+    access: Access,
+}
+
+impl Question {
+    fn case_a() -> Self {
+        Question {
+            host: el2(VTCR),
+            guest: el1(5, TCR),
+            access: access(0x1008, 0, 0),
+        }
+    }
+
+    fn answer(self, capture: Capture, log: &mut [u64]) -> Result<Answer, Refusal> {
+        let Capture { base, bytes } = capture;
+        question::translate(bytes, base, self.host, self.guest, self.access, log)
+    }
+
+    // Its answer and its log in a line.
+    fn ask(
+        self,
+        rt: &impl Print,
+        name: impl fmt::Display + Drop,
+        capture: Capture,
+    ) -> io::Result<()> {
+        let mut log = [0; 24];
+        let told = self.answer(capture, &mut log);
+        println!(rt; "{name}: {}{}", Shown(told), Reads(&log))
+    }
+}
+
+// A question of case A's capture, cut to a length, with one word written over.
+#[derive(Clone, Copy)]
+struct Case {
+    name: &'static str,
+    length: usize,
+    word: Option<(usize, u64)>,
+    host: El2,
+    guest: El1,
+    access: Access,
+}
+
+impl Case {
+    fn a() -> Self {
+        let Question {
+            host,
+            guest,
+            access,
+        } = Question::case_a();
+        Case {
+            name: "A",
+            length: 0x8000,
+            word: None,
+            host,
+            guest,
+            access,
+        }
+    }
+
+    fn ask(self, rt: &impl Print) -> io::Result<()> {
+        let mut bytes = image::case_a();
+        if let Some((at, word)) = self.word {
+            image::put(&mut bytes, at, word);
+        }
+        let length = self.length.min(bytes.len());
+        let question = Question {
+            host: self.host,
+            guest: self.guest,
+            access: self.access,
+        };
+        question.ask(rt, self.name, Capture::at(BASE, &bytes[..length]))
+    }
+}
+
+fn a_to_l() -> [Case; 12] {
+    let a = Case::a();
+    [
+        a,
+        Case {
+            name: "B",
+            word: Some((0x2280, 0x9_077f)),
+            access: access(0x1008, 1, 0),
+            ..a
+        },
+        Case {
+            name: "C",
+            word: Some((0x2010, 0)),
+            ..a
+        },
+        Case {
+            name: "D",
+            word: Some((0x5008, 0x5_0343)),
+            ..a
+        },
+        Case {
+            name: "E",
+            length: 0x4000,
+            ..a
+        },
+        Case {
+            name: "F",
+            access: access(0x80_0000_0000, 0, 0),
+            ..a
+        },
+        Case {
+            name: "G",
+            access: access(0x7f_ffff_ffff, 0, 0),
+            ..a
+        },
+        Case {
+            name: "H",
+            access: access(0x1008, 2, 1),
+            ..a
+        },
+        Case {
+            name: "I",
+            host: el2(0x2_00d9),
+            ..a
+        },
+        Case {
+            name: "J",
+            guest: el1(0, TCR),
+            access: access(0x5_0008, 0, 0),
+            ..a
+        },
+        Case {
+            name: "K",
+            guest: el1(0, TCR),
+            access: access(0x5_0009, 0, 0),
+            ..a
+        },
+        Case {
+            name: "L",
+            guest: el1(5, 0x2_0080_0028),
+            ..a
+        },
+    ]
+}
+
+fn beside_them() -> [Case; 4] {
+    let a = Case::a();
+    [
+        Case {
+            name: "L, T0SZ 39",
+            guest: el1(5, 0x2_0080_0027),
+            ..a
+        },
+        Case {
+            name: "A, the next word",
+            access: access(0x1010, 0, 0),
+            ..a
+        },
+        Case {
+            name: "A in an empty capture",
+            length: 0,
+            ..a
+        },
+        Case {
+            name: "A, kind 3",
+            access: access(0x1008, 3, 0),
+            ..a
+        },
+    ]
 }
 
 // A write through stage 1 tables that stage 2 makes read-only.
 fn ask_read_only(rt: &impl Print) -> io::Result<()> {
-    let mut bytes = [0u8; 0x8000];
-    image::fill(&mut bytes);
-    image::put(&mut bytes, 0x2008, 0x4000_377f);
-    image::put(&mut bytes, 0x2010, 0x4000_477f);
-    image::put(&mut bytes, 0x2018, 0x4000_577f);
-    ask(
+    let mut bytes = image::case_a();
+    image::put_all(
+        &mut bytes,
+        &[
+            (0x2008, 0x4000_377f),
+            (0x2010, 0x4000_477f),
+            (0x2018, 0x4000_577f),
+        ],
+    );
+    let question = Question {
+        access: access(0x1008, 1, 0),
+        ..Question::case_a()
+    };
+    question.ask(
         rt,
-        b"A as a write, stage 1 tables read-only at stage 2: ",
-        &bytes,
-        BASE,
-        el2(VTCR),
-        el1(5, TCR),
-        access(0x1008, 1, 0),
+        "A as a write, stage 1 tables read-only at stage 2",
+        Capture::at(BASE, &bytes),
     )
 }
 
 // A root of 1,024 entries, of which entry 513 is a block; a 9-bit index would find entry 1, which is zero.
 fn ask_concatenated(rt: &impl Print) -> io::Result<()> {
-    let mut bytes = [0u8; 0x8000];
-    image::put(&mut bytes, 0x1008, 0x8000_07fd);
-    ask(
+    let bytes = image::of::<0x8000>(&[(0x1008, 0x8000_07fd)]);
+    let question = Question {
+        host: el2(0x2_0058),
+        guest: el1(0, 0),
+        access: access(0x80_4000_0008, 0, 0),
+    };
+    question.ask(
         rt,
-        b"concatenated root, entry 513: ",
-        &bytes,
-        BASE,
-        el2(0x2_0058),
-        el1(0, 0),
-        access(0x80_4000_0008, 0, 0),
+        "concatenated root, entry 513",
+        Capture::at(BASE, &bytes),
     )
 }
 
 // Case A with eight bytes captured at a base, and a log of some length.
-fn ask_small(rt: &impl Print, name: &[u8], base: u64, log: &mut [u64]) -> io::Result<()> {
-    let bytes = [0u8; 8];
-    print::text(rt, name)?;
-    let answer = question::translate(
-        &bytes,
-        base,
-        el2(VTCR),
-        el1(5, TCR),
-        access(0x1008, 0, 0),
-        log,
-    );
-    print::answer(rt, answer)?;
-    print::text(rt, b"\n")
+fn ask_small(rt: &impl Print, name: &str, base: u64, log: &mut [u64]) -> io::Result<()> {
+    let bytes = [0; 8];
+    let told = Question::case_a().answer(Capture::at(base, &bytes), log);
+    println!(rt; "{name}: {}", Shown(told))
 }
 
-fn ask_short(rt: &impl Print) -> io::Result<()> {
-    let mut log = [7u64; 23];
-    ask_small(rt, b"log of 23 words: ", BASE, &mut log)
-}
-
-fn ask_high(rt: &impl Print) -> io::Result<()> {
-    let mut log = [7u64; 24];
+fn ask_refused(rt: &impl Print) -> io::Result<()> {
+    ask_small(rt, "log of 23 words", BASE, &mut [7; 23])?;
     ask_small(
         rt,
-        b"capture ending a byte past 2^48: ",
+        "capture ending a byte past 2^48",
         0xffff_ffff_fff9,
-        &mut log,
+        &mut [7; 24],
     )
 }
 
 // A batch of two addresses and its ledger in a line.
-fn batch(
-    rt: &impl Print,
-    name: &[u8],
-    bytes: &[u8],
-    outputs: &mut [u64],
-    numbers: &mut [u64],
-) -> io::Result<()> {
-    let addresses = [0x1008u64, 0x2000];
-    print::text(rt, name)?;
-    let answer = batch::run(
+fn batch(rt: &impl Print, name: &str, bytes: &[u8], outputs: &mut [u64]) -> io::Result<()> {
+    let Question { host, guest, .. } = Question::case_a();
+    let told = batch::run(
         bytes,
         BASE,
-        el2(VTCR),
-        el1(5, TCR),
+        host,
+        guest,
         0,
         0,
         8,
-        &addresses,
+        &[0x1008, 0x2000],
         outputs,
-        numbers,
+        &mut [0; 2],
     );
-    print::batch(rt, answer)?;
-    print::text(rt, b"\n")
+    println!(rt; "{name}: {}", Shown(told))
 }
 
-// The same with the capture as it is, or cut short.
-fn batch_first(rt: &impl Print, name: &[u8], length: usize) -> io::Result<()> {
-    let mut bytes = [0u8; 0x8000];
-    image::fill(&mut bytes);
-    let mut outputs = [0u64; 2];
-    let mut numbers = [0u64; 2];
-    if length <= 0x8000 {
-        batch(rt, name, &bytes[..length], &mut outputs, &mut numbers)?;
-    }
-    Ok(())
-}
-
-// Refused before the capture is looked at: two addresses, one output.
-fn batch_short(rt: &impl Print) -> io::Result<()> {
-    let bytes = [0u8; 8];
-    let mut outputs = [0u64; 1];
-    let mut numbers = [0u64; 2];
+// The last is refused before the capture is looked at: two addresses, one output.
+fn batches(rt: &impl Print) -> io::Result<()> {
+    let bytes = image::case_a();
+    let cut = &bytes[..0x4000];
+    batch(rt, "batch of 0x1008 and 0x2000", &bytes, &mut [0; 2])?;
     batch(
         rt,
-        b"batch of 0x1008 and 0x2000, a list of one output: ",
-        &bytes,
-        &mut outputs,
-        &mut numbers,
+        "the same, capture cut to 0x4000 bytes",
+        cut,
+        &mut [0; 2],
+    )?;
+    batch(
+        rt,
+        "batch of 0x1008 and 0x2000, a list of one output",
+        &[0; 8],
+        &mut [0; 1],
     )
 }
 
-fn a_to_f(rt: &impl Print) -> io::Result<()> {
-    let r = el2(VTCR);
-    let g = el1(5, TCR);
-    ask_first(rt, b"A: ", 0x8000, r, g, access(0x1008, 0, 0))?;
-    ask_with(rt, b"B: ", 0x2280, 0x9077f, r, g, access(0x1008, 1, 0))?;
-    ask_with(rt, b"C: ", 0x2010, 0, r, g, access(0x1008, 0, 0))?;
-    ask_with(rt, b"D: ", 0x5008, 0x50343, r, g, access(0x1008, 0, 0))?;
-    ask_first(rt, b"E: ", 0x4000, r, g, access(0x1008, 0, 0))?;
-    ask_first(rt, b"F: ", 0x8000, r, g, access(0x80_0000_0000, 0, 0))
-}
-
-fn g_to_l(rt: &impl Print) -> io::Result<()> {
-    let r = el2(VTCR);
-    let g = el1(5, TCR);
-    ask_first(rt, b"G: ", 0x8000, r, g, access(0x7f_ffff_ffff, 0, 0))?;
-    ask_first(rt, b"H: ", 0x8000, r, g, access(0x1008, 2, 1))?;
-    ask_first(rt, b"I: ", 0x8000, el2(0x2_00d9), g, access(0x1008, 0, 0))?;
-    ask_first(rt, b"J: ", 0x8000, r, el1(0, TCR), access(0x5_0008, 0, 0))?;
-    ask_first(rt, b"K: ", 0x8000, r, el1(0, TCR), access(0x5_0009, 0, 0))?;
-    ask_first(
-        rt,
-        b"L: ",
-        0x8000,
-        r,
-        el1(5, 0x2_0080_0028),
-        access(0x1008, 0, 0),
-    )
-}
-
-fn beyond(rt: &impl Print) -> io::Result<()> {
-    let r = el2(VTCR);
-    let g = el1(5, TCR);
-    ask_first(
-        rt,
-        b"L, T0SZ 39: ",
-        0x8000,
-        r,
-        el1(5, 0x2_0080_0027),
-        access(0x1008, 0, 0),
-    )?;
-    ask_first(
-        rt,
-        b"A, the next word: ",
-        0x8000,
-        r,
-        g,
-        access(0x1010, 0, 0),
-    )?;
-    ask_first(
-        rt,
-        b"A in an empty capture: ",
-        0,
-        r,
-        g,
-        access(0x1008, 0, 0),
-    )?;
-    ask_first(rt, b"A, kind 3: ", 0x8000, r, g, access(0x1008, 3, 0))?;
+fn questions(rt: &impl Print) -> io::Result<()> {
+    for case in a_to_l() {
+        case.ask(rt)?;
+    }
+    for case in beside_them() {
+        case.ask(rt)?;
+    }
     ask_read_only(rt)?;
     ask_concatenated(rt)?;
-    ask_short(rt)?;
-    ask_high(rt)?;
-    batch_first(rt, b"batch of 0x1008 and 0x2000: ", 0x8000)?;
-    batch_first(rt, b"the same, capture cut to 0x4000 bytes: ", 0x4000)?;
-    batch_short(rt)
+    ask_refused(rt)
 }
 
 fn main(rt: HostRuntime) -> io::Result<()> {
-    a_to_f(&rt)?;
-    g_to_l(&rt)?;
-    beyond(&rt)?;
+    questions(&rt)?;
+    batches(&rt)?;
     audits::all(&rt)?;
     cores::all(&rt)?;
     sizes::all(&rt)?;

@@ -1,228 +1,225 @@
 // Answers as text.
 use answers::{Answer, Refusal};
 use attributes::{Attributes, Cacheability, DeviceType, MemoryType, Shareability};
-use audit::{AuditAnswer, Finding, FindingKind};
-use batch::BatchAnswer;
+use audit::{Finding, FindingKind};
 use descriptor::entry::FaultKind;
-use ledger::line::LineAnswer;
 use ledger::{Ledger, line};
 use stages::both::Translation;
-use std::io;
+use std::fmt;
 use walk::stop::{Fault, Missing, Open, Stage};
 
-pub(crate) fn text(rt: &impl Print, t: &[u8]) -> io::Result<()> {
-    rt.write_all(t)
-}
+// A value of another crate's type, for which `Display` cannot be written here without a wrapper.
+#[derive(Clone, Copy)]
+pub(crate) struct Shown<T>(pub(crate) T);
 
-fn number(rt: &impl Print, before: &[u8], n: u64) -> io::Result<()> {
-    text(rt, before)?;
-    rt.print(n)
-}
-
-fn place(rt: &impl Print, before: &[u8], n: u64) -> io::Result<()> {
-    text(rt, before)?;
-    print!(rt; "{n:#x}")
-}
-
-fn cacheability(rt: &impl Print, c: Cacheability) -> io::Result<()> {
-    match c {
-        Cacheability::NonCacheable => text(rt, b" NC"),
-        Cacheability::WriteThrough => text(rt, b" WT"),
-        Cacheability::WriteBack => text(rt, b" WB"),
+impl fmt::Display for Shown<Cacheability> {
+    fn fmt<W: fmt::Write>(&self, f: &mut fmt::Formatter<W>) -> fmt::Result {
+        f.write_str(match self.0 {
+            Cacheability::NonCacheable => "NC",
+            Cacheability::WriteThrough => "WT",
+            Cacheability::WriteBack => "WB",
+        })
     }
 }
 
-fn device_type(rt: &impl Print, d: DeviceType) -> io::Result<()> {
-    match d {
-        DeviceType::NGnRnE => text(rt, b" Device nGnRnE"),
-        DeviceType::NGnRE => text(rt, b" Device nGnRE"),
-        DeviceType::NGRE => text(rt, b" Device nGRE"),
-        DeviceType::GRE => text(rt, b" Device GRE"),
+impl fmt::Display for Shown<DeviceType> {
+    fn fmt<W: fmt::Write>(&self, f: &mut fmt::Formatter<W>) -> fmt::Result {
+        f.write_str(match self.0 {
+            DeviceType::NGnRnE => "nGnRnE",
+            DeviceType::NGnRE => "nGnRE",
+            DeviceType::NGRE => "nGRE",
+            DeviceType::GRE => "GRE",
+        })
     }
 }
 
-fn memory_type(rt: &impl Print, m: MemoryType) -> io::Result<()> {
-    match m {
-        MemoryType::Device(d) => device_type(rt, d),
-        MemoryType::Normal { outer, inner } => {
-            text(rt, b" Normal outer")?;
-            cacheability(rt, outer)?;
-            text(rt, b" inner")?;
-            cacheability(rt, inner)
-        }
-    }
-}
-
-fn shareability(rt: &impl Print, s: Shareability) -> io::Result<()> {
-    match s {
-        Shareability::NonShareable => text(rt, b", not shareable"),
-        Shareability::OuterShareable => text(rt, b", outer shareable"),
-        Shareability::InnerShareable => text(rt, b", inner shareable"),
-    }
-}
-
-fn attributes(rt: &impl Print, a: Attributes) -> io::Result<()> {
-    let m = a.memory;
-    let s = a.shareability;
-    memory_type(rt, m)?;
-    shareability(rt, s)
-}
-
-fn stage_of(rt: &impl Print, s: Stage) -> io::Result<()> {
-    match s {
-        Stage::One => text(rt, b", stage 1"),
-        Stage::Two { ipa, onwalk } => {
-            text(rt, b", stage 2")?;
-            if onwalk {
-                text(rt, b" on-walk")?;
+impl fmt::Display for Shown<MemoryType> {
+    fn fmt<W: fmt::Write>(&self, f: &mut fmt::Formatter<W>) -> fmt::Result {
+        match self.0 {
+            MemoryType::Device(device) => write!(f, "Device {}", Shown(device)),
+            MemoryType::Normal { outer, inner } => {
+                write!(f, "Normal outer {} inner {}", Shown(outer), Shown(inner))
             }
-            place(rt, b", IPA ", ipa)
         }
     }
 }
 
-fn kind(rt: &impl Print, k: FaultKind) -> io::Result<()> {
-    match k {
-        FaultKind::Translation => text(rt, b"translation fault"),
-        FaultKind::AddressSize => text(rt, b"address size fault"),
-        FaultKind::AccessFlag => text(rt, b"access flag fault"),
-        FaultKind::Permission => text(rt, b"permission fault"),
+impl fmt::Display for Shown<Shareability> {
+    fn fmt<W: fmt::Write>(&self, f: &mut fmt::Formatter<W>) -> fmt::Result {
+        f.write_str(match self.0 {
+            Shareability::NonShareable => "not shareable",
+            Shareability::OuterShareable => "outer shareable",
+            Shareability::InnerShareable => "inner shareable",
+        })
     }
 }
 
-fn translation(rt: &impl Print, t: Translation) -> io::Result<()> {
-    let a = t.attributes;
-    place(rt, b"translated to ", t.address)?;
-    text(rt, b",")?;
-    attributes(rt, a)?;
-    number(rt, b", levels ", t.level1)?;
-    number(rt, b" and ", t.level2)
-}
-
-fn fault_of(rt: &impl Print, f: Fault) -> io::Result<()> {
-    let k = f.kind;
-    let s = f.stage;
-    kind(rt, k)?;
-    stage_of(rt, s)?;
-    number(rt, b", level ", f.level)
-}
-
-fn absent(rt: &impl Print, m: Missing) -> io::Result<()> {
-    let s = m.stage;
-    place(rt, b"not in the capture: ", m.address)?;
-    stage_of(rt, s)?;
-    number(rt, b", level ", m.level)
-}
-
-fn unsettled(rt: &impl Print, o: Open) -> io::Result<()> {
-    let s = o.stage;
-    text(rt, b"unsettled by Arm")?;
-    stage_of(rt, s)?;
-    number(rt, b", level ", o.level)
-}
-
-fn refused(rt: &impl Print, r: Refusal) -> io::Result<()> {
-    match r {
-        Refusal::ShortLog => text(rt, b"refused 10, log under 24 words"),
-        Refusal::HighCapture => text(rt, b"refused 11, capture past 2^48"),
-        Refusal::Settings { item } => number(rt, b"refused 12, settings item ", item),
-        Refusal::Unlisted => text(rt, b"refused 13, kind, EL or size"),
-        Refusal::BatchLists => text(rt, b"refused 14, batch lists"),
-        Refusal::AuditLists => text(rt, b"refused 15, audit lists"),
-        Refusal::NoRoot => text(rt, b"refused 16, no usable stage 2 root"),
-        Refusal::CoreFile => text(rt, b"refused 17, core file"),
+impl fmt::Display for Shown<Attributes> {
+    fn fmt<W: fmt::Write>(&self, f: &mut fmt::Formatter<W>) -> fmt::Result {
+        let Attributes {
+            memory,
+            shareability,
+        } = self.0;
+        write!(f, "{}, {}", Shown(memory), Shown(shareability))
     }
 }
 
-fn reads(rt: &impl Print, n: u64) -> io::Result<()> {
-    number(rt, b", reads ", n)
-}
-
-pub(crate) fn answer(rt: &impl Print, a: Answer) -> io::Result<()> {
-    match a {
-        Answer::Translated { to, reads: n } => {
-            translation(rt, to)?;
-            reads(rt, n)
+impl fmt::Display for Shown<Stage> {
+    fn fmt<W: fmt::Write>(&self, f: &mut fmt::Formatter<W>) -> fmt::Result {
+        match self.0 {
+            Stage::One => f.write_str("stage 1"),
+            Stage::Two { ipa, onwalk: true } => write!(f, "stage 2 on-walk, IPA {ipa:#x}"),
+            Stage::Two { ipa, onwalk: false } => write!(f, "stage 2, IPA {ipa:#x}"),
         }
-        Answer::Fault { fault, reads: n } => {
-            fault_of(rt, fault)?;
-            reads(rt, n)
-        }
-        Answer::Misaligned { stage, reads: n } => {
-            text(rt, b"alignment fault")?;
-            stage_of(rt, stage)?;
-            reads(rt, n)
-        }
-        Answer::Absent { missing, reads: n } => {
-            absent(rt, missing)?;
-            reads(rt, n)
-        }
-        Answer::Unsettled { open, reads: n } => {
-            unsettled(rt, open)?;
-            reads(rt, n)
-        }
-        Answer::Refused(r) => refused(rt, r),
     }
 }
 
-fn address(rt: &impl Print, n: u64) -> io::Result<()> {
-    place(rt, b" ", n)
+impl fmt::Display for Shown<FaultKind> {
+    fn fmt<W: fmt::Write>(&self, f: &mut fmt::Formatter<W>) -> fmt::Result {
+        f.write_str(match self.0 {
+            FaultKind::Translation => "translation fault",
+            FaultKind::AddressSize => "address size fault",
+            FaultKind::AccessFlag => "access flag fault",
+            FaultKind::Permission => "permission fault",
+        })
+    }
+}
+
+impl fmt::Display for Shown<Translation> {
+    fn fmt<W: fmt::Write>(&self, f: &mut fmt::Formatter<W>) -> fmt::Result {
+        let Translation {
+            address,
+            attributes,
+            level1,
+            level2,
+        } = self.0;
+        write!(
+            f,
+            "translated to {address:#x}, {}, levels {level1} and {level2}",
+            Shown(attributes)
+        )
+    }
+}
+
+impl fmt::Display for Shown<Fault> {
+    fn fmt<W: fmt::Write>(&self, f: &mut fmt::Formatter<W>) -> fmt::Result {
+        let Fault { kind, stage, level } = self.0;
+        write!(f, "{}, {}, level {level}", Shown(kind), Shown(stage))
+    }
+}
+
+impl fmt::Display for Shown<Missing> {
+    fn fmt<W: fmt::Write>(&self, f: &mut fmt::Formatter<W>) -> fmt::Result {
+        let Missing {
+            address,
+            stage,
+            level,
+        } = self.0;
+        write!(
+            f,
+            "not in the capture: {address:#x}, {}, level {level}",
+            Shown(stage)
+        )
+    }
+}
+
+impl fmt::Display for Shown<Open> {
+    fn fmt<W: fmt::Write>(&self, f: &mut fmt::Formatter<W>) -> fmt::Result {
+        let Open { stage, level } = self.0;
+        write!(f, "unsettled by Arm, {}, level {level}", Shown(stage))
+    }
+}
+
+impl fmt::Display for Shown<Refusal> {
+    fn fmt<W: fmt::Write>(&self, f: &mut fmt::Formatter<W>) -> fmt::Result {
+        match self.0 {
+            Refusal::ShortLog => f.write_str("refused 10, log under 24 words"),
+            Refusal::HighCapture => f.write_str("refused 11, capture past 2^48"),
+            Refusal::Settings { item } => write!(f, "refused 12, settings item {item}"),
+            Refusal::Unlisted => f.write_str("refused 13, kind, EL or size"),
+            Refusal::BatchLists => f.write_str("refused 14, batch lists"),
+            Refusal::AuditLists => f.write_str("refused 15, audit lists"),
+            Refusal::NoRoot => f.write_str("refused 16, no usable stage 2 root"),
+            Refusal::CoreFile => f.write_str("refused 17, core file"),
+        }
+    }
+}
+
+impl fmt::Display for Shown<Answer> {
+    fn fmt<W: fmt::Write>(&self, f: &mut fmt::Formatter<W>) -> fmt::Result {
+        match self.0 {
+            Answer::Translated { to, reads } => write!(f, "{}, reads {reads}", Shown(to)),
+            Answer::Fault { fault, reads } => write!(f, "{}, reads {reads}", Shown(fault)),
+            Answer::Misaligned { stage, reads } => {
+                write!(f, "alignment fault, {}, reads {reads}", Shown(stage))
+            }
+            Answer::Absent { missing, reads } => write!(f, "{}, reads {reads}", Shown(missing)),
+            Answer::Unsettled { open, reads } => write!(f, "{}, reads {reads}", Shown(open)),
+        }
+    }
+}
+
+impl fmt::Display for Shown<Ledger> {
+    fn fmt<W: fmt::Write>(&self, f: &mut fmt::Formatter<W>) -> fmt::Result {
+        let mut buffer = [0u8; 160];
+        let line = line::write_line(self.0, &mut buffer).and_then(|n| buffer.get(..n));
+        match line.and_then(|line| str::from_utf8(line).ok()) {
+            Some(line) => f.write_str(line),
+            None => f.write_str("no room for the line"),
+        }
+    }
+}
+
+impl fmt::Display for Shown<FindingKind> {
+    fn fmt<W: fmt::Write>(&self, f: &mut fmt::Formatter<W>) -> fmt::Result {
+        f.write_str(match self.0 {
+            FindingKind::NotCaptured => "finding 1, table not whole in the capture",
+            FindingKind::TouchesGrant => "finding 2, table touches a grant",
+            FindingKind::UnlistedTable => "finding 3, next table not listed one level lower down",
+            FindingKind::OutsideGrants => "finding 4, leaf's range not inside one grant",
+        })
+    }
+}
+
+impl fmt::Display for Shown<Finding> {
+    fn fmt<W: fmt::Write>(&self, f: &mut fmt::Formatter<W>) -> fmt::Result {
+        let Finding { kind, address } = self.0;
+        write!(f, "{}: {address:#x}", Shown(kind))
+    }
+}
+
+impl fmt::Display for Shown<Option<Finding>> {
+    fn fmt<W: fmt::Write>(&self, f: &mut fmt::Formatter<W>) -> fmt::Result {
+        match self.0 {
+            None => f.write_str("clean"),
+            Some(finding) => write!(f, "{}", Shown(finding)),
+        }
+    }
+}
+
+// What a call is told.
+impl<T: Copy> fmt::Display for Shown<Result<T, Refusal>>
+where
+    Shown<T>: fmt::Display,
+{
+    fn fmt<W: fmt::Write>(&self, f: &mut fmt::Formatter<W>) -> fmt::Result {
+        match self.0 {
+            Ok(answer) => write!(f, "{}", Shown(answer)),
+            Err(why) => write!(f, "{}", Shown(why)),
+        }
+    }
 }
 
 // The addresses read, up to the first word that a question left as it was, zero.
-pub(crate) fn log(rt: &impl Print, words: &[u64]) -> io::Result<()> {
-    text(rt, b" |")?;
-    for &word in words {
-        if word == 0 {
-            break;
+#[derive(Clone, Copy)]
+pub(crate) struct Reads<'a>(pub(crate) &'a [u64]);
+
+impl<'a> fmt::Display for Reads<'a> {
+    fn fmt<W: fmt::Write>(&self, f: &mut fmt::Formatter<W>) -> fmt::Result {
+        f.write_str(" |")?;
+        for address in self.0.iter().take_while(|&&address| address != 0) {
+            write!(f, " {address:#x}")?;
         }
-        address(rt, word)?;
-    }
-    Ok(())
-}
-
-fn ledger_line(rt: &impl Print, l: Ledger) -> io::Result<()> {
-    let mut buffer = [0u8; 160];
-    match line::write_line(l, &mut buffer) {
-        LineAnswer::Written(n) => {
-            if n <= 160 {
-                text(rt, &buffer[..n])?;
-            }
-            Ok(())
-        }
-        LineAnswer::Short => text(rt, b"no room for the line"),
-    }
-}
-
-pub(crate) fn batch(rt: &impl Print, a: BatchAnswer) -> io::Result<()> {
-    match a {
-        BatchAnswer::Done(l) => ledger_line(rt, l),
-        BatchAnswer::Refused(r) => refused(rt, r),
-    }
-}
-
-fn finding_kind(rt: &impl Print, k: FindingKind) -> io::Result<()> {
-    match k {
-        FindingKind::NotCaptured => text(rt, b"finding 1, table not whole in the capture"),
-        FindingKind::TouchesGrant => text(rt, b"finding 2, table touches a grant"),
-        FindingKind::UnlistedTable => text(
-            rt,
-            b"finding 3, next table not listed one level lower down",
-        ),
-        FindingKind::OutsideGrants => text(rt, b"finding 4, leaf's range not inside one grant"),
-    }
-}
-
-fn finding(rt: &impl Print, f: Finding) -> io::Result<()> {
-    let k = f.kind;
-    finding_kind(rt, k)?;
-    place(rt, b": ", f.address)
-}
-
-pub(crate) fn audit(rt: &impl Print, a: AuditAnswer) -> io::Result<()> {
-    match a {
-        AuditAnswer::Clean => text(rt, b"clean"),
-        AuditAnswer::Found(f) => finding(rt, f),
-        AuditAnswer::Refused(r) => refused(rt, r),
+        Ok(())
     }
 }

@@ -1,13 +1,13 @@
--- A geometry's masks: what they keep of a word, and that each is a word.
+-- A geometry's masks: what they keep of a word.
 -- Assumes nothing.
 use mathlib.Core.Path.{◌≡◌, refl, sym, ap, ◌∙◌, subst}
 use mathlib.Core.Bool.{Bool, true, false, not, ◌&&◌}
 use Prim.Native.Nat.{ℕ, zero, suc, ◌-◌, ◌*◌, ◌/◌, ◌%◌, ◌^◌, ◌≤◌, ◌<◌}
-use native.Mathlib.Nat.{mod-lt, div-mul-le_self, sub-add_cancel, lt_of_lt_of_le, lt_of_le_of_lt}
+use native.Mathlib.Nat.{mod-lt, div-mul-le_self, sub-add_cancel, lt_of_le_of_lt}
 use native.Mathlib.Omega.{arith}
 use borrow.Author.Tests.{leb-true, leb-false, lt-ltb, eq-eqb, ne_eqb}
 use lib.Dec.{leb, ltb, eqb}
-use lib.Pow.{pow_pos, pow_mono, field}
+use lib.Pow.{pow_pos, field}
 use lib.Bits.{bit_and, and_high, and_zero_r}
 use Rattle.bits.specs.Bits.{pick, bit, upper, beyond}
 use Rattle.bits.proofs.Shifts.{shifted_out, low_48}
@@ -35,10 +35,7 @@ beyond_above x k = by_test (leb k 48) refl
         let far : 48 ≤ k = omega (arith, leb-false k 48 e) in
         rw (and_zero_r x, shifted_out (low_48 x) far)
 
--- an index and its table's address make a word
-pub index_small : (x k : ℕ) → k ≤ 13 → x % 2 ^ k < 2 ^ 13
-index_small x k h = lt_of_lt_of_le (mod-lt x (pow_pos k)) (pow_mono h)
-
+-- a table's address is below 48 bits
 pub upper_small : (x k : ℕ) → upper x k < 2 ^ 48
 upper_small x k = lt_of_le_of_lt (div-mul-le_self (x % 2 ^ 48) (2 ^ k)) (low_48 x)
 

@@ -17,14 +17,14 @@ pub struct Geometry {
 }
 
 // The type of a descriptor: invalid, of a table, or of a page or a block.
-#[derive(Clone, Copy)]
+#[derive(Clone, Copy, PartialEq, Eq)]
 pub enum DescriptorType {
     Invalid,
     Table,
     Leaf,
 }
 
-#[derive(Clone, Copy)]
+#[derive(Clone, Copy, PartialEq, Eq)]
 pub enum FaultKind {
     Translation,
     AddressSize,
@@ -56,7 +56,7 @@ pub struct Masks {
 
 // Where a walk goes from an entry: down to a table, to its end at a leaf, or to a fault; without contents, so that nothing is built on
 // the way.
-#[derive(Clone, Copy)]
+#[derive(Clone, Copy, PartialEq, Eq)]
 pub enum Turn {
     Down,
     Leaf,
@@ -77,26 +77,15 @@ pub struct Inherited {
 }
 
 // The type of the descriptor x, by its bits 1:0 and the number n of levels below it.
+#[tactic(auto, using(bits::proofs::Tests::choices), unfolding(crate::specs::Entry::descriptor_type))]
 pub fn descriptor_type(g: Geometry, n: u64, x: u64) -> DescriptorType
     ensures { result ≡ Entries.descriptor_type g n x }
 {
-    let block = g.block;
-    if bit(x, 0) {
-        if bit(x, 1) {
-            if n == 0 {
-                DescriptorType::Leaf
-            } else {
-                DescriptorType::Table
-            }
-        } else if n == 0 {
-            DescriptorType::Invalid
-        } else if n <= block {
-            DescriptorType::Leaf
-        } else {
-            DescriptorType::Invalid
-        }
-    } else {
-        DescriptorType::Invalid
+    match (bit(x, 0), bit(x, 1)) {
+        (true, true) if n == 0 => DescriptorType::Leaf,
+        (true, true) => DescriptorType::Table,
+        (true, false) if n != 0 && n <= g.block => DescriptorType::Leaf,
+        _ => DescriptorType::Invalid,
     }
 }
 

@@ -1,11 +1,13 @@
 // Permissions of a leaf's descriptor x, for each stage.
+#![tactic(auto, using(bits::proofs::Tests::choices))]
+
 ghost use Rattle.std.specs.Prelude.{◌≡◌, ◌&&◌, ◌||◌, not};
 ghost use Rattle.bits.specs.Bits as Bits;
 ghost use Rattle.access.specs.Access.{is_read};
 ghost use Rattle.descriptor.specs.Permission as Permissions;
 
 use crate::entry::Inherited;
-use access::{Access, at_el0, is_read, is_write};
+use access::Access;
 use bits::bit;
 
 // AP is bits 7:6. Bit 7 clear: EL1 may write.
@@ -46,20 +48,21 @@ fn el1_fetches(wxn: bool, h: Inherited, x: u64) -> bool
 }
 
 // Stage 1 lets the access through, with what its tables impose.
+#[tactic(auto, using(bits::proofs::Tests::choices), unfolding(crate::specs::Permission::stage1_permits))]
 pub fn stage1_permits(wxn: bool, a: Access, h: Inherited, x: u64) -> bool
     ensures { result ≡ Permissions.stage1_permits wxn a h x }
 {
-    if at_el0(a) {
-        if is_read(a) {
+    if a.at_el0() {
+        if a.is_read() {
             el0_reads(h, x)
-        } else if is_write(a) {
+        } else if a.is_write() {
             el0_writes(h, x)
         } else {
             el0_fetches(wxn, h, x)
         }
-    } else if is_read(a) {
+    } else if a.is_read() {
         true
-    } else if is_write(a) {
+    } else if a.is_write() {
         el1_writes(h, x)
     } else {
         el1_fetches(wxn, h, x)
@@ -70,25 +73,19 @@ pub fn stage1_permits(wxn: bool, a: Access, h: Inherited, x: u64) -> bool
 fn as_read(onwalk: bool, a: Access) -> bool
     ensures { result ≡ onwalk || is_read a }
 {
-    if onwalk { true } else { is_read(a) }
+    onwalk || a.is_read()
 }
 
-// A fetch is a read of what XN does not shut.
-fn stage2_fetches(x: u64) -> bool
-    ensures { result ≡ Bits.bit x 6 && not (Bits.bit x 54) }
-{
-    bit(x, 6) & !bit(x, 54)
-}
-
-// Stage 2 lets the access through: S2AP is bits 7:6, XN is bit 54.
+// Stage 2 lets the access through: S2AP is bits 7:6, XN is bit 54. A fetch is a read of what XN does not shut.
+#[tactic(auto, using(bits::proofs::Tests::choices), unfolding(crate::specs::Permission::stage2_permits))]
 pub fn stage2_permits(onwalk: bool, a: Access, x: u64) -> bool
     ensures { result ≡ Permissions.stage2_permits onwalk a x }
 {
     if as_read(onwalk, a) {
         bit(x, 6)
-    } else if is_write(a) {
+    } else if a.is_write() {
         bit(x, 7)
     } else {
-        stage2_fetches(x)
+        bit(x, 6) & !bit(x, 54)
     }
 }

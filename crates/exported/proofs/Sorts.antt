@@ -1,5 +1,6 @@
 -- The words of an answer, by its sort.
 -- Assumes nothing.
+use Rattle.std.specs.Prelude.{Err}
 use mathlib.Core.Path.{◌≡◌, refl}
 use mathlib.Core.List.{[], ◌∷◌}
 use Prim.Native.Nat.{ℕ}
@@ -9,7 +10,7 @@ use Rattle.walk.specs.declared.stop.Stage.TheVariants.{One, Two}
 use Rattle.walk.specs.declared.stop.Fault.{Fault}
 use Rattle.walk.specs.declared.stop.Missing.{Missing}
 use Rattle.walk.specs.declared.stop.Open.{Open}
-use Rattle.answers.specs.Answers.{address, stage, level, on_walk, reads, stage_number, is_on_walk, ipa_of, carries}
+use Rattle.answers.specs.Answers.{address, stage, level, on_walk, reads, stage_number, is_on_walk, ipa_of, carries, carries_of}
 use Rattle.answers.specs.declared.Refusal.{Refusal}
 use Rattle.answers.specs.declared.Refusal.TheVariants.{ShortLog, HighCapture, Settings, Unlisted, BatchLists, AuditLists, NoRoot, CoreFile}
 use Rattle.answers.specs.declared.Answer.TheVariants as A
@@ -46,8 +47,8 @@ module _ (number n : ℕ) where
       by_stage One = refl
       by_stage (Two i w) = refl
 
-pub refused_words : (number : ℕ) (r : Refusal) → worded number (carries (A.Refused r)) ≡ refused number (item_word r)
-unfolding pick carries spelled listed_at word_at worded
+pub refused_words : (number : ℕ) (r : Refusal) → worded number (carries_of (Err r)) ≡ refused number (item_word r)
+unfolding pick carries_of spelled listed_at word_at worded
 refused_words number ShortLog = refl
 refused_words number HighCapture = refl
 refused_words number (Settings item) = refl

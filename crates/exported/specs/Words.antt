@@ -1,6 +1,7 @@
 -- Answers in numbers.
 -- Assumes nothing.
-use Rattle.std.specs.Prelude.{Bool, true, false, List, [], ◌∷◌, ℕ, ◌+◌, ◌*◌, eqb, get_or}
+use Rattle.answers.specs.declared.Refusal.{Refusal}
+use Rattle.std.specs.Prelude.{Bool, true, false, List, [], ◌∷◌, ℕ, ◌+◌, ◌*◌, eqb, get_or, Result, Ok, Err, Option, Some, Some, None}
 use Rattle.bits.specs.Bits.{pick}
 use Rattle.attributes.specs.declared.DeviceType.{DeviceType}
 use Rattle.attributes.specs.declared.DeviceType.TheVariants.{NGnRnE, NGnRE, NGRE, GRE}
@@ -10,26 +11,17 @@ use Rattle.attributes.specs.declared.MemoryType.{MemoryType}
 use Rattle.attributes.specs.declared.MemoryType.TheVariants.{Device, Normal}
 use Rattle.attributes.specs.declared.Shareability.{Shareability}
 use Rattle.attributes.specs.declared.Shareability.TheVariants.{NonShareable, OuterShareable, InnerShareable}
-use Rattle.answers.specs.Answers.{Value, address, attributes, stage, level, level1, level2, on_walk, ipa, reads, item, item_of, number, carries}
+use Rattle.answers.specs.Answers.{Value, address, attributes, stage, level, level1, level2, on_walk, ipa, reads, item, item_of, number_of, carries_of}
 use Rattle.answers.specs.declared.Answer.{Answer}
 use Rattle.ledger.specs.declared.Ledger.{Ledger}
-use Rattle.ledger.specs.declared.line.LineAnswer.{LineAnswer}
-use Rattle.ledger.specs.declared.line.LineAnswer.TheVariants.{Written, Short}
 use Rattle.batch.specs.Batch.{batch_number}
-use Rattle.batch.specs.declared.BatchAnswer.{BatchAnswer}
-use Rattle.batch.specs.declared.BatchAnswer.TheVariants.{Done, Refused}
+use Rattle.audit.specs.declared.Finding.{Finding}
 use Rattle.exported.specs.declared.Words.{Words}
 use Rattle.exported.specs.declared.BatchWords.{BatchWords}
 use Rattle.exported.specs.declared.AuditWords.{AuditWords}
 use Rattle.exported.specs.declared.BanksWords.{BanksWords}
 use Rattle.banks.specs.Banks.{banks_number}
-use Rattle.banks.specs.declared.BanksAnswer.{BanksAnswer}
-use Rattle.banks.specs.declared.BanksAnswer.TheVariants.{Listed}
-use Rattle.banks.specs.declared.BanksAnswer.TheVariants as B
 use Rattle.audit.specs.Audit.{audit_number}
-use Rattle.audit.specs.declared.AuditAnswer.{AuditAnswer}
-use Rattle.audit.specs.declared.AuditAnswer.TheVariants.{Clean, Found}
-use Rattle.audit.specs.declared.AuditAnswer.TheVariants as A
 
 -- ---- codes of this interface
 
@@ -101,32 +93,32 @@ worded n l =
       reads = word_at 11 l;
     }
 
-abbrev pub words : Answer → Words
-words a = worded (number a) (carries a)
+abbrev pub words : Result Answer Refusal → Words
+words told = worded (number_of told) (carries_of told)
 
 -- ---- a batch's answer: its number, and its ledger or a settings refusal's item
 
 abbrev pub no_ledger : Ledger
 no_ledger = record { asked = 0; translated = 0; faulted = 0; absent = 0; unsettled = 0 }
 
-unfoldable pub batch_words : BatchAnswer → BatchWords
-batch_words (Done l) = record { number = batch_number (Done l); item = 0; ledger = l }
-batch_words (Refused r) = record { number = batch_number (Refused r); item = get_or (item_of r) 0 0; ledger = no_ledger }
+unfoldable pub batch_words : Result Ledger Refusal → BatchWords
+batch_words (Ok l) = record { number = batch_number (Ok l); item = 0; ledger = l }
+batch_words (Err r) = record { number = batch_number (Err r); item = get_or (item_of r) 0 0; ledger = no_ledger }
 
 -- ---- an audit's answer: its number, and a finding's address or a settings refusal's item
 
-unfoldable pub audit_words : AuditAnswer → AuditWords
-audit_words Clean = record { number = audit_number Clean; item = 0; address = 0 }
-audit_words (Found f) = record { number = audit_number (Found f); item = 0; address = f.address }
-audit_words (A.Refused r) = record { number = audit_number (A.Refused r); item = get_or (item_of r) 0 0; address = 0 }
+unfoldable pub audit_words : Result (Option Finding) Refusal → AuditWords
+audit_words (Ok None) = record { number = audit_number (Ok None); item = 0; address = 0 }
+audit_words (Ok (Some f)) = record { number = audit_number (Ok (Some f)); item = 0; address = f.address }
+audit_words (Err r) = record { number = audit_number (Err r); item = get_or (item_of r) 0 0; address = 0 }
 
 -- ---- a bank list's answer: its number, and how many banks there are
 
-unfoldable pub banks_words : BanksAnswer → BanksWords
-banks_words (Listed n) = record { number = banks_number (Listed n); count = n }
-banks_words (B.Refused r) = record { number = banks_number (B.Refused r); count = 0 }
+unfoldable pub banks_words : Result ℕ Refusal → BanksWords
+banks_words (Ok n) = record { number = banks_number (Ok n); count = n }
+banks_words (Err r) = record { number = banks_number (Err r); count = 0 }
 
 -- the bytes that a line took, or 0 where the buffer was too short for it
-abbrev pub line_word : LineAnswer → ℕ
-line_word (Written n) = n
-line_word Short = 0
+abbrev pub line_word : Option ℕ → ℕ
+line_word (Some n) = n
+line_word None = 0

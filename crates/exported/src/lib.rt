@@ -4,7 +4,7 @@
 #![tactic(auto)]
 
 ghost use Rattle.std.specs.Prelude.{◌≡◌, ◌≤◌};
-ghost use Rattle.answers.specs.Answers.{stage_number, carries};
+ghost use Rattle.answers.specs.Answers.{number, stage_number, carries};
 ghost use Rattle.answers.specs.declared.Answer.TheVariants as Answers;
 ghost use Rattle.ledger.specs.Line.{line_into};
 ghost use Rattle.batch.specs.Batch.{sharing, batch};
@@ -16,10 +16,7 @@ ghost use Rattle.exported.specs.Parts as Parts;
 
 use answers::{Answer, Refusal};
 use attributes::{Cacheability, DeviceType, MemoryType, Shareability};
-use audit::AuditAnswer;
-use banks::BanksAnswer;
-use batch::BatchAnswer;
-use ledger::line::LineAnswer;
+use audit::Finding;
 use ledger::{Ledger, line};
 use registers::{El1, El2};
 use stages::both::Translation;
@@ -43,6 +40,24 @@ pub struct Words {
     pub reads: u64,
 }
 
+// What an answer says of all that it doesn't carry.
+const NOTHING: Words = Words {
+    number: 0,
+    item: 0,
+    address: 0,
+    memory: 0,
+    shareability: 0,
+    level1: 0,
+    level2: 0,
+    stage: 0,
+    level: 0,
+    onwalk: 0,
+    ipa: 0,
+    reads: 0,
+};
+
+// Codes of the C interface. Functions give them, each by its definition in `Words`: `From` could be written only in the crates where the
+// types stand, which know nothing of C.
 fn device_code(d: DeviceType) -> u64
     ensures { result ≡ Numbers.device_code d }
 {
@@ -64,6 +79,7 @@ fn cache_code(c: Cacheability) -> u64
     }
 }
 
+#[tactic(auto, unfolding(crate::specs::Words::memory_code))]
 fn memory_code(m: MemoryType) -> u64
     ensures { result ≡ Numbers.memory_code m }
 {
@@ -83,24 +99,12 @@ fn shareability_code(s: Shareability) -> u64
     }
 }
 
-fn flag(b: bool) -> u64
-    ensures { result ≡ Numbers.flag b }
-{
-    if b { 1 } else { 0 }
-}
-
 fn item_of(r: Refusal) -> u64
     ensures { result ≡ Parts.item_word r }
 {
     match r {
         Refusal::Settings { item } => item,
-        Refusal::ShortLog => 0,
-        Refusal::HighCapture => 0,
-        Refusal::Unlisted => 0,
-        Refusal::BatchLists => 0,
-        Refusal::AuditLists => 0,
-        Refusal::NoRoot => 0,
-        Refusal::CoreFile => 0,
+        _ => 0,
     }
 }
 
@@ -109,7 +113,7 @@ fn stage_number(s: Stage) -> u64
 {
     match s {
         Stage::One => 1,
-        Stage::Two { ipa: _, onwalk: _ } => 2,
+        Stage::Two { .. } => 2,
     }
 }
 
@@ -118,7 +122,7 @@ fn on_walk_of(s: Stage) -> u64
 {
     match s {
         Stage::One => 0,
-        Stage::Two { ipa: _, onwalk } => flag(onwalk),
+        Stage::Two { onwalk, .. } => u64::from(onwalk),
     }
 }
 
@@ -127,57 +131,22 @@ fn ipa_of(s: Stage) -> u64
 {
     match s {
         Stage::One => 0,
-        Stage::Two { ipa, onwalk: _ } => ipa,
+        Stage::Two { ipa, .. } => ipa,
     }
 }
 
 fn translated(number: u64, t: Translation, reads: u64) -> Words
     ensures { result ≡ Numbers.worded number (carries (Answers.Translated t reads)) }
 {
-    let attributes = t.attributes;
-    let memory = attributes.memory;
-    let shareability = attributes.shareability;
     Words {
         number,
-        item: 0,
         address: t.address,
-        memory: memory_code(memory),
-        shareability: shareability_code(shareability),
+        memory: memory_code(t.attributes.memory),
+        shareability: shareability_code(t.attributes.shareability),
         level1: t.level1,
         level2: t.level2,
-        stage: 0,
-        level: 0,
-        onwalk: 0,
-        ipa: 0,
         reads,
-    }
-}
-
-// An answer that names a stage.
-fn stopped(
-    number: u64,
-    address: u64,
-    stage: u64,
-    level: u64,
-    onwalk: u64,
-    ipa: u64,
-    reads: u64,
-) -> Words
-    ensures { result ≡ Parts.stopped number address stage level onwalk ipa reads }
-{
-    Words {
-        number,
-        item: 0,
-        address,
-        memory: 0,
-        shareability: 0,
-        level1: 0,
-        level2: 0,
-        stage,
-        level,
-        onwalk,
-        ipa,
-        reads,
+        ..NOTHING
     }
 }
 
@@ -187,71 +156,60 @@ fn refused(number: u64, item: u64) -> Words
     Words {
         number,
         item,
-        address: 0,
-        memory: 0,
-        shareability: 0,
-        level1: 0,
-        level2: 0,
-        stage: 0,
-        level: 0,
-        onwalk: 0,
-        ipa: 0,
-        reads: 0,
+        ..NOTHING
     }
 }
 
-pub fn in_words(a: Answer) -> Words
-    ensures { result ≡ Numbers.words a }
+#[tactic(auto, using(crate::proofs::Sorts::fault_words, crate::proofs::Sorts::misaligned_words, crate::proofs::Sorts::absent_words, crate::proofs::Sorts::unsettled_words))]
+fn answer_in_words(a: Answer) -> Words
+    ensures { result ≡ Numbers.worded (number a) (carries a) }
 {
-    let number = answers::number(a);
+    let number = answers::answer_number(a);
     match a {
         Answer::Translated { to, reads } => translated(number, to, reads),
-        Answer::Fault { fault, reads } => {
-            let s = fault.stage;
-            stopped(
-                number,
-                0,
-                stage_number(s),
-                fault.level,
-                on_walk_of(s),
-                ipa_of(s),
-                reads,
-            )
-        }
-        Answer::Misaligned { stage, reads } => stopped(
+        Answer::Fault { fault, reads } => Words {
             number,
-            0,
-            stage_number(stage),
-            0,
-            0,
-            ipa_of(stage),
+            stage: stage_number(fault.stage),
+            level: fault.level,
+            onwalk: on_walk_of(fault.stage),
+            ipa: ipa_of(fault.stage),
             reads,
-        ),
-        Answer::Absent { missing, reads } => {
-            let s = missing.stage;
-            stopped(
-                number,
-                missing.address,
-                stage_number(s),
-                missing.level,
-                on_walk_of(s),
-                0,
-                reads,
-            )
-        }
-        Answer::Unsettled { open, reads } => {
-            let s = open.stage;
-            stopped(
-                number,
-                0,
-                stage_number(s),
-                open.level,
-                on_walk_of(s),
-                0,
-                reads,
-            )
-        }
-        Answer::Refused(refusal) => refused(number, item_of(refusal)),
+            ..NOTHING
+        },
+        Answer::Misaligned { stage, reads } => Words {
+            number,
+            stage: stage_number(stage),
+            ipa: ipa_of(stage),
+            reads,
+            ..NOTHING
+        },
+        Answer::Absent { missing, reads } => Words {
+            number,
+            address: missing.address,
+            stage: stage_number(missing.stage),
+            level: missing.level,
+            onwalk: on_walk_of(missing.stage),
+            reads,
+            ..NOTHING
+        },
+        Answer::Unsettled { open, reads } => Words {
+            number,
+            stage: stage_number(open.stage),
+            level: open.level,
+            onwalk: on_walk_of(open.stage),
+            reads,
+            ..NOTHING
+        },
+    }
+}
+
+#[tactic(auto, using(crate::proofs::Sorts::refused_words), unfolding(answers::specs::Answers::number_of, answers::specs::Answers::carries_of))]
+pub fn in_words(told: Result<Answer, Refusal>) -> Words
+    ensures { result ≡ Numbers.words told }
+{
+    match told {
+        Ok(answer) => answer_in_words(answer),
+        Err(why) => refused(answers::refusal_number(why), item_of(why)),
     }
 }
 
@@ -276,17 +234,18 @@ fn no_ledger() -> Ledger
     }
 }
 
-fn batch_in_words(a: BatchAnswer) -> BatchWords
-    ensures { result ≡ Numbers.batch_words a }
+#[tactic(auto, unfolding(crate::specs::Words::batch_words))]
+fn batch_in_words(told: Result<Ledger, Refusal>) -> BatchWords
+    ensures { result ≡ Numbers.batch_words told }
 {
-    let number = batch::number(a);
-    match a {
-        BatchAnswer::Done(ledger) => BatchWords {
+    let number = batch::number(told);
+    match told {
+        Ok(ledger) => BatchWords {
             number,
             item: 0,
             ledger,
         },
-        BatchAnswer::Refused(why) => BatchWords {
+        Err(why) => BatchWords {
             number,
             item: item_of(why),
             ledger: no_ledger(),
@@ -295,6 +254,7 @@ fn batch_in_words(a: BatchAnswer) -> BatchWords
 }
 
 // The batch. Both written lists are as long as the list of addresses, at most 4,096 words.
+// Parameters stay apart here and below: the exported calls of C take them so.
 pub fn humpelkaas_batch(
     bytes: &[u8],
     base: u64,
@@ -344,22 +304,23 @@ pub struct AuditWords {
     pub address: u64,
 }
 
-fn audit_in_words(a: AuditAnswer) -> AuditWords
-    ensures { result ≡ Numbers.audit_words a }
+#[tactic(auto, unfolding(crate::specs::Words::audit_words))]
+fn audit_in_words(told: Result<Option<Finding>, Refusal>) -> AuditWords
+    ensures { result ≡ Numbers.audit_words told }
 {
-    let number = audit::number(a);
-    match a {
-        AuditAnswer::Clean => AuditWords {
+    let number = audit::number(told);
+    match told {
+        Ok(None) => AuditWords {
             number,
             item: 0,
             address: 0,
         },
-        AuditAnswer::Found(f) => AuditWords {
+        Ok(Some(finding)) => AuditWords {
             number,
             item: 0,
-            address: f.address,
+            address: finding.address,
         },
-        AuditAnswer::Refused(why) => AuditWords {
+        Err(why) => AuditWords {
             number,
             item: item_of(why),
             address: 0,
@@ -404,13 +365,14 @@ pub struct BanksWords {
     pub count: u64,
 }
 
-fn banks_in_words(a: BanksAnswer) -> BanksWords
-    ensures { result ≡ Numbers.banks_words a }
+#[tactic(auto, unfolding(crate::specs::Words::banks_words))]
+fn banks_in_words(told: Result<u64, Refusal>) -> BanksWords
+    ensures { result ≡ Numbers.banks_words told }
 {
-    let number = banks::number(a);
-    match a {
-        BanksAnswer::Listed(count) => BanksWords { number, count },
-        BanksAnswer::Refused(_) => BanksWords { number, count: 0 },
+    let number = banks::number(told);
+    match told {
+        Ok(count) => BanksWords { number, count },
+        Err(_) => BanksWords { number, count: 0 },
     }
 }
 
@@ -431,20 +393,14 @@ pub fn humpelkaas_core_banks(
     banks_in_words(banks::list(file, addresses, offsets, lengths, shorts))
 }
 
-// The bytes written, or 0 for a buffer that is too short: no line is empty.
-fn line_word(a: LineAnswer) -> u64
-    ensures { result ≡ Numbers.line_word a }
-{
-    match a {
-        LineAnswer::Written(n) => n as u64,
-        LineAnswer::Short => 0,
-    }
-}
-
 // The ledger's line, over the first bytes of a buffer.
 pub fn humpelkaas_ledger_line(l: Ledger, buffer: &mut [u8]) -> u64
     ensures answered { result ≡ Numbers.line_word (line_into l buffer.old).answer }
     ensures written { buffer.new ≡ (line_into l buffer.old).buffer }
 {
-    line_word(line::write_line(l, buffer))
+    // No line is empty, so that 0 tells of a buffer that is too short.
+    match line::write_line(l, buffer) {
+        Some(n) => n as u64,
+        None => 0,
+    }
 }

@@ -8,7 +8,8 @@ use lib.Dec.{leb, eqb}
 use lib.ListN.{length, take, replicate, length-append}
 use lib.Seq.{drop-append_seam, drop-append-add}
 use Rattle.bits.specs.Bits.{pick}
-use Rattle.capture.specs.Capture.{Bank, little}
+use Rattle.capture.specs.Capture.{little}
+use Rattle.capture.specs.declared.Bank.{Bank}
 use Rattle.layout.specs.Elf.{number, headed, is_bank, headers_at, headers_end, banks_from, banks, most_banks, well_laid, is_core}
 use Rattle.facts.specs.CoreFiles.{bytes, bank, load, loads, made, elf, making, changed}
 

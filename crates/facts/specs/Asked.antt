@@ -4,12 +4,12 @@ use Rattle.std.specs.Prelude.{false, List, map, ℕ, replicate}
 use Rattle.access.specs.declared.Access.{Access}
 use Rattle.capture.specs.Capture.{ends_high}
 use Rattle.capture.specs.Sparse.{sparse}
-use Rattle.answers.specs.Answers.{Value, number, carries}
+use Rattle.answers.specs.Answers.{Value, number_of, carries_of}
 use Rattle.registers.specs.declared.El1.{El1}
 use Rattle.registers.specs.declared.El2.{El2}
 use Rattle.answers.specs.Question.{Told, ask_over}
 use Rattle.audit.specs.Audit.{audit_over}
-use Rattle.audit.specs.declared.AuditAnswer.{AuditAnswer}
+use Rattle.audit.specs.Audit.{AuditAnswer}
 
 -- a capture of length bytes at base, zero but for some words
 pub record Image : Type 0 where
@@ -24,7 +24,7 @@ pub record Row : Type 0 where
   pub log : List ℕ
 
 abbrev pub row : Told → Row
-row t = record { number = number t.answer; values = carries t.answer; log = t.log }
+row t = record { number = number_of t.answer; values = carries_of t.answer; log = t.log }
 
 -- a lent log holds this in each word before a question
 abbrev pub before : ℕ

@@ -1,12 +1,11 @@
 -- The audit's rules, each as facts of the definitions: case M's neighbours.
 -- Assumes nothing.
-use Rattle.std.specs.Prelude.{◌≡◌, refl, List, [], ◌∷◌, ◌++◌, ℕ, zero, suc, ◌+◌}
+use Rattle.std.specs.Prelude.{◌≡◌, refl, List, [], ◌∷◌, ◌++◌, ℕ, zero, suc, ◌+◌, Ok, None, Err}
 use Rattle.registers.specs.declared.El2.{El2}
 use Rattle.answers.specs.declared.Refusal.TheVariants.{HighCapture, Settings, AuditLists, NoRoot}
 use Rattle.audit.specs.Audit.{found}
 use Rattle.audit.specs.declared.FindingKind.TheVariants.{NotCaptured, TouchesGrant, UnlistedTable, OutsideGrants}
-use Rattle.audit.specs.declared.AuditAnswer.{AuditAnswer}
-use Rattle.audit.specs.declared.AuditAnswer.TheVariants.{Clean, Refused}
+use Rattle.audit.specs.Audit.{AuditAnswer}
 use Rattle.facts.specs.Open.{opened}
 use Rattle.facts.specs.Asked.{Image, audited, audited_pairs}
 use Rattle.facts.specs.Cases.{words, image, cut, registers, el2, host, grants, tables}
@@ -44,7 +43,7 @@ with_grant address count = (0x90000, 0x1000) ∷ (address, count) ∷ last_grant
 -- ---- finding 1: a table is not whole in the capture
 
 -- the capture ends with the last table
-case_m_whole : audit_cut 0x3000 ≡ Clean
+case_m_whole : audit_cut 0x3000 ≡ Ok None
 unfolding opened audited
 case_m_whole = refl
 
@@ -70,7 +69,7 @@ unfolding opened audited
 case_m_touched_root = refl
 
 -- a grant that ends where the root starts; case M has one that starts where the last table ends
-case_m_beside : audit_with [] (with_grant 0x3FFFF000 0x1000) tables ≡ Clean
+case_m_beside : audit_with [] (with_grant 0x3FFFF000 0x1000) tables ≡ Ok None
 unfolding opened audited
 case_m_beside = refl
 
@@ -92,7 +91,7 @@ unfolding opened audited
 case_m_narrow_touched = refl
 
 -- the rest of its page need not be captured, and the next may be granted
-case_m_narrow : audited_pairs (zeros 0x40000FF0 16) narrow ((0x40001000, 0x1000) ∷ []) [] ≡ Clean
+case_m_narrow : audited_pairs (zeros 0x40000FF0 16) narrow ((0x40001000, 0x1000) ∷ []) [] ≡ Ok None
 unfolding opened audited
 case_m_narrow = refl
 
@@ -119,7 +118,7 @@ abbrev pub two_frames : List (ℕ × ℕ)
 two_frames = (0x90000, 0x2000) ∷ last_grant
 
 -- the leaf ends where the grant ends
-case_m_end : leaf 0x917FF two_frames ≡ Clean
+case_m_end : leaf 0x917FF two_frames ≡ Ok None
 unfolding opened audited
 case_m_end = refl
 
@@ -134,12 +133,12 @@ unfolding opened audited
 case_m_before = refl
 
 -- a block of 2MB
-case_m_block : block 0x2007FD (with_grant 0x200000 0x200000) ≡ Clean
+case_m_block : block 0x2007FD (with_grant 0x200000 0x200000) ≡ Ok None
 unfolding opened audited
 case_m_block = refl
 
 -- its address is bits 47 down to 21
-case_m_block_low : block 0x3FF7FD (with_grant 0x200000 0x200000) ≡ Clean
+case_m_block_low : block 0x3FF7FD (with_grant 0x200000 0x200000) ≡ Ok None
 unfolding opened audited
 case_m_block_low = refl
 
@@ -164,7 +163,7 @@ unfolding opened audited
 case_m_block_gap = refl
 
 -- a block of 1GB in the root
-case_m_gigabyte : audit_with ((0x40000008, 0x800007FD) ∷ []) (grants ++ (0x80000000, 0x40000000) ∷ []) tables ≡ Clean
+case_m_gigabyte : audit_with ((0x40000008, 0x800007FD) ∷ []) (grants ++ (0x80000000, 0x40000000) ∷ []) tables ≡ Ok None
 unfolding opened audited
 case_m_gigabyte = refl
 
@@ -176,16 +175,16 @@ case_m_gigabyte_end = refl
 -- ---- entries that are passed over: frame 0x90000 is not granted, or no table is listed
 
 -- type 01 at level 3
-case_m_type_01 : leaf 0x907FD last_grant ≡ Clean
+case_m_type_01 : leaf 0x907FD last_grant ≡ Ok None
 unfolding opened audited
 case_m_type_01 = refl
 
 -- bit 0 clear
-case_m_bit_0 : leaf 0x907FE last_grant ≡ Clean
+case_m_bit_0 : leaf 0x907FE last_grant ≡ Ok None
 unfolding opened audited
 case_m_bit_0 = refl
 
-case_m_bit_0_root : audit_with ((0x40000000, 0x40001002) ∷ []) grants [] ≡ Clean
+case_m_bit_0_root : audit_with ((0x40000000, 0x40001002) ∷ []) grants [] ≡ Ok None
 unfolding opened audited
 case_m_bit_0_root = refl
 
@@ -198,7 +197,7 @@ abbrev pub from_level0 : (pamax : ℕ) → El2
 from_level0 pamax = sized pamax 0x20098
 
 -- type 01 at level 0
-case_m_type_01_level_0 : audited_pairs (image ((0x40000000, 0x40001001) ∷ [])) (from_level0 44) grants [] ≡ Clean
+case_m_type_01_level_0 : audited_pairs (image ((0x40000000, 0x40001001) ∷ [])) (from_level0 44) grants [] ≡ Ok None
 unfolding opened audited
 case_m_type_01_level_0 = refl
 
@@ -228,11 +227,11 @@ case_m_bit_47 : leaf 0x8000000907FF grants ≡ found OutsideGrants 0x40002280
 unfolding opened audited
 case_m_bit_47 = refl
 
-case_m_bit_47_granted : leaf 0x8000000907FF (last_grant ++ (0x800000090000, 0x1000) ∷ []) ≡ Clean
+case_m_bit_47_granted : leaf 0x8000000907FF (last_grant ++ (0x800000090000, 0x1000) ∷ []) ≡ Ok None
 unfolding opened audited
 case_m_bit_47_granted = refl
 
-case_m_bit_48 : leaf 0x10000000907FF grants ≡ Clean
+case_m_bit_48 : leaf 0x10000000907FF grants ≡ Ok None
 unfolding opened audited
 case_m_bit_48 = refl
 
@@ -240,7 +239,7 @@ case_m_table_47 : next 0x800040002003 ≡ found UnlistedTable 0x40001000
 unfolding opened audited
 case_m_table_47 = refl
 
-case_m_table_48 : next 0x1000040002003 ≡ Clean
+case_m_table_48 : next 0x1000040002003 ≡ Ok None
 unfolding opened audited
 case_m_table_48 = refl
 
@@ -293,7 +292,7 @@ abbrev pub twice : (word : ℕ) → (grants : List (ℕ × ℕ)) → AuditAnswer
 twice word grants = audit_with ((0x40006000, word) ∷ []) grants (tables ++ (0x40006000, 2) ∷ (0x40006000, 3) ∷ [])
 
 -- a granted block at level 2, passed over at level 3
-case_m_twice : twice 0x2007FD (with_grant 0x200000 0x200000) ≡ Clean
+case_m_twice : twice 0x2007FD (with_grant 0x200000 0x200000) ≡ Ok None
 unfolding opened audited
 case_m_twice = refl
 
@@ -314,11 +313,11 @@ accepted = found NotCaptured 0x40000000
 
 -- 15
 abbrev pub malformed : AuditAnswer
-malformed = Refused AuditLists
+malformed = Err AuditLists
 
 -- 16
 abbrev pub rootless : AuditAnswer
-rootless = Refused NoRoot
+rootless = Err NoRoot
 
 -- the lists alone
 abbrev pub lists : (grants tables : List (ℕ × ℕ)) → AuditAnswer
@@ -566,25 +565,25 @@ case_m_base_low = refl
 abbrev pub late : (pamax hcr : ℕ) → AuditAnswer
 late pamax hcr = on_el2 (registers pamax hcr 0x60028 0x40000000 0x2000000)
 
-case_m_item_1 : late 41 0x8000001 ≡ Refused (Settings 1)
+case_m_item_1 : late 41 0x8000001 ≡ Err (Settings 1)
 unfolding opened audited
 case_m_item_1 = refl
 
-case_m_item_2 : late 40 0x8000001 ≡ Refused (Settings 2)
+case_m_item_2 : late 40 0x8000001 ≡ Err (Settings 2)
 unfolding opened audited
 case_m_item_2 = refl
 
-case_m_item_3 : late 40 1 ≡ Refused (Settings 3)
+case_m_item_3 : late 40 1 ≡ Err (Settings 3)
 unfolding opened audited
 case_m_item_3 = refl
 
 -- EE of SCTLR_EL2
-case_m_item_4 : late 40 0x80000001 ≡ Refused (Settings 4)
+case_m_item_4 : late 40 0x80000001 ≡ Err (Settings 4)
 unfolding opened audited
 case_m_item_4 = refl
 
 -- PS is 6; 5 passes
-case_m_item_8 : on_el2 (el2 0x60028) ≡ Refused (Settings 8)
+case_m_item_8 : on_el2 (el2 0x60028) ≡ Err (Settings 8)
 unfolding opened audited
 case_m_item_8 = refl
 
@@ -593,7 +592,7 @@ unfolding opened audited
 case_m_item_8_passes = refl
 
 -- T0SZ is 40; 39 passes
-case_m_item_9 : on_el2 (el2 0x20028) ≡ Refused (Settings 9)
+case_m_item_9 : on_el2 (el2 0x20028) ≡ Err (Settings 9)
 unfolding opened audited
 case_m_item_9 = refl
 
@@ -602,7 +601,7 @@ unfolding opened audited
 case_m_item_9_passes = refl
 
 -- T0SZ is 15; 16 passes
-case_m_size_15 : on_el2 (sized 48 0x2008F) ≡ Refused (Settings 9)
+case_m_size_15 : on_el2 (sized 48 0x2008F) ≡ Err (Settings 9)
 unfolding opened audited
 case_m_size_15 = refl
 
@@ -611,12 +610,12 @@ unfolding opened audited
 case_m_size_16 = refl
 
 -- TG0 is 3, which is reserved
-case_m_granule : on_el2 (el2 0x2C059) ≡ Refused (Settings 9)
+case_m_granule : on_el2 (el2 0x2C059) ≡ Err (Settings 9)
 unfolding opened audited
 case_m_granule = refl
 
 -- input size 41, by PAMax
-case_m_pamax : on_el2 (el2 0x20057) ≡ Refused (Settings 9)
+case_m_pamax : on_el2 (el2 0x20057) ≡ Err (Settings 9)
 unfolding opened audited
 case_m_pamax = refl
 
@@ -640,19 +639,19 @@ case_m_high : audited_pairs (zeros 0xFFFFFFFFFFF8 8) host grants tables ≡ acce
 unfolding opened audited
 case_m_high = refl
 
-case_m_too_high : audited_pairs (zeros 0xFFFFFFFFFFF8 9) host grants tables ≡ Refused HighCapture
+case_m_too_high : audited_pairs (zeros 0xFFFFFFFFFFF8 9) host grants tables ≡ Err HighCapture
 unfolding opened audited
 case_m_too_high = refl
 
-case_m_wraps : audited_pairs (zeros 0xFFFFFFFFFFFFFFF8 8) host grants tables ≡ Refused HighCapture
+case_m_wraps : audited_pairs (zeros 0xFFFFFFFFFFFFFFF8 8) host grants tables ≡ Err HighCapture
 unfolding opened audited
 case_m_wraps = refl
 
-case_m_11_before_12 : wrong (zeros 0xFFFFFFFFFFF8 9) 41 ≡ Refused HighCapture
+case_m_11_before_12 : wrong (zeros 0xFFFFFFFFFFF8 9) 41 ≡ Err HighCapture
 unfolding opened audited
 case_m_11_before_12 = refl
 
-case_m_12_before_15 : wrong (cut 0) 41 ≡ Refused (Settings 1)
+case_m_12_before_15 : wrong (cut 0) 41 ≡ Err (Settings 1)
 unfolding opened audited
 case_m_12_before_15 = refl
 

@@ -1,10 +1,9 @@
 -- Lists of a core file's banks (02, §1), as facts of the definitions over made files.
 -- Assumes nothing.
-use Rattle.std.specs.Prelude.{◌≡◌, refl, List, [], ◌∷◌, map, ℕ, replicate}
+use Rattle.std.specs.Prelude.{◌≡◌, refl, List, [], ◌∷◌, map, ℕ, replicate, Ok, Err}
 use Rattle.answers.specs.declared.Refusal.{Refusal}
 use Rattle.answers.specs.declared.Refusal.TheVariants.{ShortLog, CoreFile}
 use Rattle.banks.specs.Banks.{BanksTold, bank_list, banks_number}
-use Rattle.banks.specs.declared.BanksAnswer.TheVariants.{Listed, Refused}
 use Rattle.facts.specs.CoreFiles.{making, changed, cut_to}
 
 unfoldable pub listing : Unit {0}
@@ -32,7 +31,7 @@ listed file n = bank_list file (replicate n.addresses 1) (replicate n.offsets 2)
 abbrev pub untouched : Refusal → Lent → BanksTold
 untouched why n =
     record {
-      answer = Refused why;
+      answer = Err why;
       addresses = replicate n.addresses 1;
       offsets = replicate n.offsets 2;
       lengths = replicate n.lengths 3;
@@ -43,7 +42,7 @@ untouched why n =
 abbrev pub both_banks : (keptFirst keptSecond shortFirst shortSecond : ℕ) → BanksTold
 both_banks keptFirst keptSecond shortFirst shortSecond =
     record {
-      answer = Listed 2;
+      answer = Ok 2;
       addresses = 0x1000 ∷ 0x2000 ∷ replicate 62 1;
       offsets = 176 ∷ 184 ∷ replicate 62 2;
       lengths = keptFirst ∷ keptSecond ∷ replicate 62 3;

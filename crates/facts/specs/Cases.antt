@@ -1,6 +1,6 @@
 -- The cases of document 01, each as a fact of the definitions.
 -- Assumes nothing.
-use Rattle.std.specs.Prelude.{◌≡◌, refl, true, false, List, [], ◌∷◌, ◌++◌, ℕ, ◌-◌, pos, negsuc, length, replicate}
+use Rattle.std.specs.Prelude.{◌≡◌, refl, true, false, List, [], ◌∷◌, ◌++◌, ℕ, ◌-◌, pos, negsuc, length, replicate, Ok, Err, None, Some, None}
 use Rattle.access.specs.declared.Access.{Access}
 use Rattle.attributes.specs.declared.DeviceType.TheVariants.{NGnRnE}
 use Rattle.attributes.specs.declared.Cacheability.TheVariants.{WriteBack}
@@ -19,11 +19,8 @@ use Rattle.batch.specs.Batch.{Shared, unequal, batch_over}
 use Rattle.ledger.specs.Ledger.{ledger, ascii, line}
 use Rattle.ledger.specs.Line.{line_into}
 use Rattle.ledger.specs.declared.Ledger.{Ledger}
-use Rattle.ledger.specs.declared.line.LineAnswer.TheVariants.{Written, Short}
-use Rattle.batch.specs.declared.BatchAnswer.TheVariants as Batch
 use Rattle.answers.specs.declared.Refusal.TheVariants.{BatchLists, Settings}
 use Rattle.audit.specs.declared.FindingKind.TheVariants.{NotCaptured, TouchesGrant, UnlistedTable, OutsideGrants}
-use Rattle.audit.specs.declared.AuditAnswer.TheVariants.{Clean}
 use Rattle.audit.specs.Audit.{found}
 use Rattle.facts.specs.Open.{opened}
 use Rattle.facts.specs.Asked.{Image, before, asked, audited, audited_pairs}
@@ -195,7 +192,7 @@ grants = (0x90000, 0x1000) ∷ (0x40003000, 0x3000) ∷ []
 abbrev pub tables : List (ℕ × ℕ)
 tables = (0x40001000, 2) ∷ (0x40002000, 3) ∷ []
 
-case_m : audited_pairs (image []) host grants tables ≡ Clean
+case_m : audited_pairs (image []) host grants tables ≡ Ok None
 unfolding opened audited
 case_m = refl
 
@@ -255,7 +252,7 @@ abbrev pub figures : Ledger
 figures = record { asked = 2; translated = 1; faulted = 1; absent = 0; unsettled = 0 }
 
 case_batch : batch_over (sparse 0x40000000 0x8000 words) false (ends_high 0x40000000 0x8000) shared (0x1008 ∷ 0x2000 ∷ []) (before ∷ before ∷ []) (before ∷ before ∷ [])
-    ≡ record { answer = Batch.Done figures; outputs = 0x90008 ∷ 0 ∷ []; numbers = 0 ∷ 1 ∷ [] }
+    ≡ record { answer = Ok figures; outputs = 0x90008 ∷ 0 ∷ []; numbers = 0 ∷ 1 ∷ [] }
 unfolding opened
 case_batch = refl
 
@@ -264,24 +261,24 @@ unfolding opened
 case_line = refl
 
 -- a buffer of the line's 51 bytes holds it whole
-case_line_written : line_into figures (replicate 51 0x5A) ≡ record { answer = Written 51; buffer = line figures }
+case_line_written : line_into figures (replicate 51 0x5A) ≡ record { answer = Some 51; buffer = line figures }
 unfolding opened
 case_line_written = refl
 
 -- with a byte less: nothing is written
-case_line_short : line_into figures (replicate 50 0x5A) ≡ record { answer = Short; buffer = replicate 50 0x5A }
+case_line_short : line_into figures (replicate 50 0x5A) ≡ record { answer = None; buffer = replicate 50 0x5A }
 unfolding opened
 case_line_short = refl
 
 -- an empty batch is accepted
 case_batch_empty : batch_over (sparse 0x40000000 0x8000 words) false (ends_high 0x40000000 0x8000) shared [] [] []
-    ≡ record { answer = Batch.Done (record { asked = 0; translated = 0; faulted = 0; absent = 0; unsettled = 0 }); outputs = []; numbers = [] }
+    ≡ record { answer = Ok (record { asked = 0; translated = 0; faulted = 0; absent = 0; unsettled = 0 }); outputs = []; numbers = [] }
 unfolding opened
 case_batch_empty = refl
 
 -- lists of unequal length: nothing is written
 case_batch_refused : batch_over (sparse 0x40000000 0x8000 words) false (ends_high 0x40000000 0x8000) shared (0x1008 ∷ 0x2000 ∷ []) (before ∷ []) (before ∷ before ∷ [])
-    ≡ record { answer = Batch.Refused BatchLists; outputs = before ∷ []; numbers = before ∷ before ∷ [] }
+    ≡ record { answer = Err BatchLists; outputs = before ∷ []; numbers = before ∷ before ∷ [] }
 unfolding opened
 case_batch_refused = refl
 
@@ -289,12 +286,12 @@ case_batch_refused = refl
 abbrev pub strange : Shared
 strange = record { el2 = registers 41 0 0 0 0; el1 = guest; kind = 0; el = 0; size = 8 }
 
-case_batch_order : (batch_over (sparse 0x40000000 0x8000 words) false (ends_high 0x40000000 0x8000) strange (0x1008 ∷ []) [] []).answer ≡ Batch.Refused BatchLists
+case_batch_order : (batch_over (sparse 0x40000000 0x8000 words) false (ends_high 0x40000000 0x8000) strange (0x1008 ∷ []) [] []).answer ≡ Err BatchLists
 unfolding opened
 case_batch_order = refl
 
 case_batch_settings : batch_over (sparse 0x40000000 0x8000 words) false (ends_high 0x40000000 0x8000) strange (0x1008 ∷ []) (before ∷ []) (before ∷ [])
-    ≡ record { answer = Batch.Refused (Settings 1); outputs = before ∷ []; numbers = before ∷ [] }
+    ≡ record { answer = Err (Settings 1); outputs = before ∷ []; numbers = before ∷ [] }
 unfolding opened
 case_batch_settings = refl
 

@@ -1,11 +1,10 @@
 -- Core files (02, §1), each rule as facts of the definitions over made files.
 -- Assumes nothing.
-use Rattle.std.specs.Prelude.{◌≡◌, refl, Bool, true, false, List, [], ◌∷◌, ◌++◌, map, ℕ, zero, suc, ◌+◌, ◌*◌, ◌/◌, ◌%◌, ltb, length, take, replicate}
+use Rattle.std.specs.Prelude.{◌≡◌, refl, Bool, true, false, List, [], ◌∷◌, ◌++◌, map, ℕ, zero, suc, ◌+◌, ◌*◌, ◌/◌, ◌%◌, ltb, length, take, replicate, Option, Some, None, Ok, Err}
 use Rattle.std.proofs.lemmas.List.Edits.{sets}
-use Rattle.reads.specs.declared.Read.{Read}
-use Rattle.reads.specs.declared.Read.TheVariants.{Absent, Word}
 use Rattle.access.specs.declared.Access.{Access}
-use Rattle.capture.specs.Capture.{Bank, part, kept, any_high}
+use Rattle.capture.specs.Capture.{part, kept, any_high}
+use Rattle.capture.specs.declared.Bank.{Bank}
 use Rattle.layout.specs.Elf.{headers_end, headed, banks, parts, is_core}
 use Rattle.layout.specs.Layout.{raw, core, captured}
 use Rattle.registers.specs.declared.El1.{El1}
@@ -14,11 +13,9 @@ use Rattle.answers.specs.Answers.{address, stage, level, level1, level2, on_walk
 use Rattle.answers.specs.Question.{ask}
 use Rattle.answers.specs.declared.Refusal.TheVariants.{HighCapture, BatchLists, CoreFile}
 use Rattle.batch.specs.Batch.{batch}
-use Rattle.batch.specs.declared.BatchAnswer.TheVariants as Batch
 use Rattle.audit.specs.Audit.{stage2_read, found, audit}
 use Rattle.audit.specs.declared.FindingKind.TheVariants.{NotCaptured, OutsideGrants}
-use Rattle.audit.specs.declared.AuditAnswer.{AuditAnswer}
-use Rattle.audit.specs.declared.AuditAnswer.TheVariants.{Clean, Refused}
+use Rattle.audit.specs.Audit.{AuditAnswer}
 use Rattle.facts.specs.Open.{opened}
 use Rattle.facts.specs.Asked.{Row, row, before, asked}
 use Rattle.facts.specs.Cases.{image, host, guest, el1, access, logged, one, two, three, all_reads, write_back, strict_device, shared, strange}
@@ -653,30 +650,30 @@ core_raw_asked = refl
 -- ---- a bank's bytes are its own
 
 -- what a core file holds at some addresses
-abbrev pub held : (file addresses : List ℕ) → List Read
+abbrev pub held : (file addresses : List ℕ) → List (Option ℕ)
 held file addresses = map (λ a. captured core file (stage2_read a)) addresses
 
 -- 02, §1: banks side by side in the file, apart in memory: bytes of the headers before the first, and of the second after it, are not its own
 core_neighbours : held (core_of ((0x1000, spelt (0x11 ∷ [])) ∷ (0x2000, spelt (0x22 ∷ [])) ∷ [])) (0xFFF ∷ 0x1000 ∷ 0x1001 ∷ 0x1008 ∷ 0x1FFF ∷ 0x2000 ∷ 0x2001 ∷ [])
-    ≡ Absent ∷ Word 0x11 ∷ Absent ∷ Absent ∷ Absent ∷ Word 0x22 ∷ Absent ∷ []
+    ≡ None ∷ Some 0x11 ∷ None ∷ None ∷ None ∷ Some 0x22 ∷ None ∷ []
 unfolding asking
 core_neighbours = refl
 
 -- 02, §1: side by side in memory too
 core_neighbours_touching : held (core_of ((0x1000, spelt (0x11 ∷ [])) ∷ (0x1008, spelt (0x22 ∷ [])) ∷ [])) (0xFFF ∷ 0x1000 ∷ 0x1001 ∷ 0x1007 ∷ 0x1008 ∷ 0x1009 ∷ [])
-    ≡ Absent ∷ Word 0x11 ∷ Absent ∷ Absent ∷ Word 0x22 ∷ Absent ∷ []
+    ≡ None ∷ Some 0x11 ∷ None ∷ None ∷ Some 0x22 ∷ None ∷ []
 unfolding asking
 core_neighbours_touching = refl
 
 -- 02, §1: inside one bank a descriptor may stand anywhere
 core_unaligned : held (core_of ((0x1001, spelt (0x11 ∷ 0x22 ∷ [])) ∷ [])) (0x1000 ∷ 0x1001 ∷ 0x1008 ∷ 0x1009 ∷ 0x100A ∷ [])
-    ≡ Absent ∷ Word 0x11 ∷ Word 0x2200 ∷ Word 0x22 ∷ Absent ∷ []
+    ≡ None ∷ Some 0x11 ∷ Some 0x2200 ∷ Some 0x22 ∷ None ∷ []
 unfolding asking
 core_unaligned = refl
 
 -- 02, §1: the first is cut after eight of its 16 bytes, and the second stands before it in the file
 core_neighbours_cut : held (made (bank 0x1000 184 16 ∷ bank 0x2000 176 8 ∷ []) (spelt (0x22 ∷ 0x11 ∷ []))) (0x1000 ∷ 0x1001 ∷ 0x1008 ∷ 0x2000 ∷ 0x2001 ∷ [])
-    ≡ Word 0x11 ∷ Absent ∷ Absent ∷ Word 0x22 ∷ Absent ∷ []
+    ≡ Some 0x11 ∷ None ∷ None ∷ Some 0x22 ∷ None ∷ []
 unfolding asking
 core_neighbours_cut = refl
 
@@ -721,24 +718,24 @@ unfolding asking
 core_11_past = refl
 
 -- 02, §1: 17 before 14; nothing is written
-core_17_before_14 : batch core strange_file strange (0x1008 ∷ []) (before ∷ []) [] ≡ record { answer = Batch.Refused CoreFile; outputs = before ∷ []; numbers = [] }
+core_17_before_14 : batch core strange_file strange (0x1008 ∷ []) (before ∷ []) [] ≡ record { answer = Err CoreFile; outputs = before ∷ []; numbers = [] }
 unfolding asking
 core_17_before_14 = refl
 
 -- 02, §1: 14 before 11, as over a raw capture
-core_14_before_11 : (batch core huge strange (0x1008 ∷ []) (before ∷ []) []).answer ≡ Batch.Refused BatchLists
+core_14_before_11 : (batch core huge strange (0x1008 ∷ []) (before ∷ []) []).answer ≡ Err BatchLists
 unfolding asking
 core_14_before_11 = refl
 
 -- 02, §1: 11 for a batch, before 12
-core_batch_11 : (batch core huge strange (0x1008 ∷ []) (before ∷ []) (before ∷ [])).answer ≡ Batch.Refused HighCapture
+core_batch_11 : (batch core huge strange (0x1008 ∷ []) (before ∷ []) (before ∷ [])).answer ≡ Err HighCapture
 unfolding asking
 core_batch_11 = refl
 
 -- 02, §1: case A, and an address whose last descriptor lies in no bank
 core_batch : batch core file_a shared (0x1008 ∷ 0x2000 ∷ []) (before ∷ before ∷ []) (before ∷ before ∷ [])
     ≡ record {
-      answer = Batch.Done (record { asked = 2; translated = 1; faulted = 0; absent = 1; unsettled = 0 });
+      answer = Ok (record { asked = 2; translated = 1; faulted = 0; absent = 1; unsettled = 0 });
       outputs = 0x90008 ∷ 0 ∷ [];
       numbers = 0 ∷ 6 ∷ [];
     }
@@ -752,12 +749,12 @@ abbrev pub core_audit : (file : List ℕ) → El2 → (grants tables : List (ℕ
 core_audit file r grants tables = audit core file r (map (λ e. e.0) grants) (map (λ e. e.1) grants) (map (λ e. e.0) tables) (map (λ e. e.1) tables)
 
 -- 02, §1: 17 before 11
-core_audit_17 : core_audit strange_file narrow [] [] ≡ Refused CoreFile
+core_audit_17 : core_audit strange_file narrow [] [] ≡ Err CoreFile
 unfolding asking
 core_audit_17 = refl
 
 -- 02, §1: 11 for the audit
-core_audit_11 : core_audit huge narrow [] [] ≡ Refused HighCapture
+core_audit_11 : core_audit huge narrow [] [] ≡ Err HighCapture
 unfolding asking
 core_audit_11 = refl
 
@@ -766,7 +763,7 @@ abbrev pub split : List ℕ
 split = core_of ((0x40000FF0, spelt (0x800007FD ∷ [])) ∷ (0x40000FF8, spelt (0xC00007FD ∷ [])) ∷ [])
 
 -- 02, §1: a root whose entries lie in two banks
-core_audit_clean : core_audit split narrow ((0x80000000, 0x80000000) ∷ []) [] ≡ Clean
+core_audit_clean : core_audit split narrow ((0x80000000, 0x80000000) ∷ []) [] ≡ Ok None
 unfolding asking
 core_audit_clean = refl
 
@@ -804,7 +801,7 @@ abbrev pub in_two : (at n : ℕ) → AuditAnswer
 in_two at n = listing ((0x40001000, replicate 0x800 0) ∷ (at, replicate n 0) ∷ [])
 
 -- 02, §1: all 512 entries in two banks
-core_audit_listed_clean : in_two 0x40001800 0x800 ≡ Clean
+core_audit_listed_clean : in_two 0x40001800 0x800 ≡ Ok None
 unfolding asking
 core_audit_listed_clean = refl
 

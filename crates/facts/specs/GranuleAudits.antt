@@ -1,10 +1,9 @@
 -- The audit with each granule of stage 2 (02, §3).
 -- Assumes nothing.
-use Rattle.std.specs.Prelude.{◌≡◌, refl, List, [], ◌∷◌, map, ℕ, ◌+◌, ◌-◌, ◌*◌, ◌^◌}
+use Rattle.std.specs.Prelude.{◌≡◌, refl, List, [], ◌∷◌, map, ℕ, ◌+◌, ◌-◌, ◌*◌, ◌^◌, Ok, None}
 use Rattle.audit.specs.Audit.{found}
 use Rattle.audit.specs.declared.FindingKind.TheVariants.{NotCaptured, TouchesGrant, UnlistedTable, OutsideGrants}
-use Rattle.audit.specs.declared.AuditAnswer.{AuditAnswer}
-use Rattle.audit.specs.declared.AuditAnswer.TheVariants.{Clean}
+use Rattle.audit.specs.Audit.{AuditAnswer}
 use Rattle.registers.specs.declared.El2.{El2}
 use Rattle.facts.specs.Open.{opened}
 use Rattle.facts.specs.Asked.{audited_pairs, audited}
@@ -52,7 +51,7 @@ abbrev pub audit : Grain → (words grants : List (ℕ × ℕ)) → AuditAnswer
 audit k words grants = audit_of k (2 * bytes k) words grants ((table k, 3) ∷ [])
 
 abbrev pub clean : List AuditAnswer
-clean = each (λ k. Clean)
+clean = each (λ k. (Ok None))
 
 audit_clean : each (λ k. audit k (words k) (grants k)) ≡ clean
 unfolding opened audited
@@ -122,7 +121,7 @@ in_root word k s = audited_pairs (record { base = 0x40000000; length = 16; words
 abbrev pub in_roots : (word : ℕ) → List AuditAnswer
 in_roots word = in_root word g4kb 31 ∷ in_root word g16kb 37 ∷ in_root word g64kb 43 ∷ []
 
-audit_level_1 : in_roots 0xC00007FD ≡ found OutsideGrants 0x40000008 ∷ Clean ∷ Clean ∷ []
+audit_level_1 : in_roots 0xC00007FD ≡ found OutsideGrants 0x40000008 ∷ (Ok None) ∷ (Ok None) ∷ []
 unfolding opened audited
 audit_level_1 = refl
 
@@ -133,7 +132,7 @@ audit_level_1_table = refl
 
 -- in a listed table
 audit_listed_1 : each (λ k. audit_of k (2 * bytes k) ((table k, 0xC00007FD) ∷ []) [] ((table k, 1) ∷ []))
-    ≡ found OutsideGrants (table g4kb) ∷ Clean ∷ Clean ∷ []
+    ≡ found OutsideGrants (table g4kb) ∷ (Ok None) ∷ (Ok None) ∷ []
 unfolding opened audited
 audit_listed_1 = refl
 

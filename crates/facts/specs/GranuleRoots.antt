@@ -1,17 +1,16 @@
 -- The roots of each granule (02, §3): the two entries of 16KB, concatenated tables, PAMax; the contiguous rule, of leaves that stand in a
 -- root; and the reserved granule codes.
 -- Assumes nothing.
-use Rattle.std.specs.Prelude.{◌≡◌, refl, false, List, [], ◌∷◌, ◌++◌, map, ℕ, ◌+◌, ◌-◌, ◌*◌, ◌^◌, replicate}
+use Rattle.std.specs.Prelude.{◌≡◌, refl, false, List, [], ◌∷◌, ◌++◌, map, ℕ, ◌+◌, ◌-◌, ◌*◌, ◌^◌, replicate, Err}
 use Rattle.answers.specs.Answers.{address, stage, level, level1, level2, on_walk, reads, item}
 use Rattle.answers.specs.declared.Refusal.TheVariants.{Settings}
-use Rattle.audit.specs.declared.AuditAnswer.TheVariants.{Refused}
 use Rattle.descriptor.specs.declared.entry.FaultKind.TheVariants.{Translation}
 use Rattle.lists.specs.Lists.{zip}
 use Rattle.regime.specs.Roots.{root2}
 use Rattle.registers.specs.declared.El1.{El1}
 use Rattle.registers.specs.declared.El2.{El2}
 use Rattle.settings.specs.Settings.{settings, audit_settings}
-use Rattle.walk.specs.declared.table.Root.TheVariants.{Unusable}
+use Rattle.walk.specs.Root.{unusable}
 use Rattle.facts.specs.Open.{opened}
 use Rattle.facts.specs.Asked.{Image, Row, asked, audited_pairs, audited}
 use Rattle.facts.specs.Cases.{image, registers, el1, el2, host, guest, access, logged, write_back, grants, tables}
@@ -163,7 +162,7 @@ unfolding opened asked
 pamax_64kb = refl
 
 -- so the rule alone, with a size of 43 bits that settings refuse
-pamax_64kb_rule : root2 (host_from g64kb 42 1 43) ≡ Unusable Translation 0
+pamax_64kb_rule : root2 (host_from g64kb 42 1 43) ≡ unusable Translation 0
 unfolding opened
 pamax_64kb_rule = refl
 
@@ -256,7 +255,7 @@ reserved_asked : asked (image []) host (with_tg0 0 3) (access 8 0 0) 24
 unfolding opened asked
 reserved_asked = refl
 
-reserved_audited : audited_pairs (image []) (with_tg 3) grants tables ≡ Refused (Settings 9)
+reserved_audited : audited_pairs (image []) (with_tg 3) grants tables ≡ Err (Settings 9)
 unfolding opened audited
 reserved_audited = refl
 

@@ -1,11 +1,10 @@
 -- The output size on both sides of 2^40 (02, §2): of each stage at the base register, at table entries and at a leaf, and of the audit at
 -- the base register alone.
 -- Assumes nothing.
-use Rattle.std.specs.Prelude.{◌≡◌, refl, true, false, List, [], ◌∷◌, map, ℕ, ◌+◌, ◌-◌, ◌*◌, take}
+use Rattle.std.specs.Prelude.{◌≡◌, refl, true, false, List, [], ◌∷◌, map, ℕ, ◌+◌, ◌-◌, ◌*◌, take, Ok, None, Err}
 use Rattle.answers.specs.Answers.{address, stage, level, level1, level2, on_walk, ipa, reads}
 use Rattle.answers.specs.declared.Refusal.TheVariants.{NoRoot}
-use Rattle.audit.specs.declared.AuditAnswer.{AuditAnswer}
-use Rattle.audit.specs.declared.AuditAnswer.TheVariants.{Clean, Refused}
+use Rattle.audit.specs.Audit.{AuditAnswer}
 use Rattle.level.specs.Level.{output_size}
 use Rattle.registers.specs.declared.El1.{El1}
 use Rattle.registers.specs.declared.El2.{El2}
@@ -122,24 +121,24 @@ case_a_ps = refl
 abbrev pub audit : (pamax at output : ℕ) → AuditAnswer
 audit pamax at output = audited_pairs (tables_at at (output + 0x7FF)) (host_at pamax 5 at) ((output, 0x1000) ∷ []) ((at + 0x1000, 2) ∷ (at + 0x2000, 3) ∷ [])
 
-audit_below : audit 40 (edge - 0x3000) 0x90000 ≡ Clean
+audit_below : audit 40 (edge - 0x3000) 0x90000 ≡ Ok None
 unfolding opened audited
 audit_below = refl
 
-audit_base : audit 40 edge 0x90000 ≡ Refused NoRoot
+audit_base : audit 40 edge 0x90000 ≡ Err NoRoot
 unfolding opened audited
 audit_base = refl
 
 -- PAMax 48
-audit_wide : audit 48 edge 0x90000 ≡ Clean
+audit_wide : audit 48 edge 0x90000 ≡ Ok None
 unfolding opened audited
 audit_wide = refl
 
 -- both listed tables from 2^40 on; then the page
-audit_table_case : audit 40 (edge - 0x1000) 0x90000 ≡ Clean
+audit_table_case : audit 40 (edge - 0x1000) 0x90000 ≡ Ok None
 unfolding opened audited
 audit_table_case = refl
 
-audit_leaf : audit 40 (edge - 0x3000) edge ≡ Clean
+audit_leaf : audit 40 (edge - 0x3000) edge ≡ Ok None
 unfolding opened audited
 audit_leaf = refl

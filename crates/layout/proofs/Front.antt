@@ -6,16 +6,17 @@ use mathlib.Core.List.{List, [], ◌∷◌}
 use Prim.Native.Nat.{ℕ, ◌+◌, ◌≤◌, ◌<◌}
 use native.Mathlib.Omega.{arith}
 use lib.Dec.{leb}
-use borrow.Author.Tests.{le-leb, lt-leb}
+use borrow.Author.Tests.{le-leb, lt-leb, leb-true, leb-false}
 use Rattle.bits.specs.Bits.{pick}
 use Rattle.bits.proofs.Tests.{by_pick, pick_true, pick_false}
 use Rattle.reads.specs.Program.{Request, All, cons}
-use Rattle.reads.specs.declared.Read.{Read}
+use Rattle.std.specs.Prelude.{Option, fold, unwrap_or}
+use Rattle.std.specs.List.{reduce}
 use Rattle.capture.specs.Capture.{kept, within, memory}
-use Rattle.capture.specs.Calls.{Lies}
+use Rattle.capture.specs.Calls.{Lies, Before}
 use Rattle.capture.specs.declared.Part.{Part}
 use Rattle.capture.proofs.Bytewise.{in_bounds}
-use Rattle.layout.specs.Calls.{front_of}
+use Rattle.layout.specs.Calls.{larger, front_of}
 
 -- what holds of each part, and of no byte, holds of the largest
 front_each : (P : Part → Type 0) (l : List Part) → P (record { address = 0; from = 0; to = 0 }) → All P l → P (front_of l)
@@ -30,11 +31,33 @@ pub front_sole : (p : Part) → front_of (p ∷ []) ≡ p
 unfolding front_of
 front_sole p = pick_true (leb 0 (kept p)) p _ (le-leb 0 (kept p) (omega arith))
 
--- ---- a part that is tried twice
+-- ---- the largest, from the first part on
 
--- a part ends by the start of another
-abbrev pub Before : Part → Part → Type 0
-Before p q = p.address + kept p ≤ q.address
+larger_none : (p : Part) → larger p (front_of []) ≡ p
+unfolding front_of
+larger_none p = pick_true (leb 0 (kept p)) p _ (le-leb 0 (kept p) (omega arith))
+
+larger_assoc : (p q r : Part) → larger (larger p q) r ≡ larger p (larger q r)
+unfolding pick
+larger_assoc p q r = by_tests (leb (kept q) (kept p)) (leb (kept r) (kept q)) refl refl
+  where
+    by_tests : (s t : Bool) → leb (kept q) (kept p) ≡ s → leb (kept r) (kept q) ≡ t → larger (pick s p q) r ≡ larger p (pick t q r)
+    by_tests true true e f = rw (e, le-leb (kept r) (kept p) (omega (arith, leb-true _ _ e, leb-true _ _ f)))
+    by_tests true false e f = refl
+    by_tests false true e f = rw (e, f)
+    by_tests false false e f = rw (f, lt-leb (kept r) (kept p) (omega (arith, leb-false _ _ e, leb-false _ _ f)))
+
+folded : (p : Part) (l : List Part) → fold larger p l ≡ larger p (front_of l)
+unfolding front_of
+folded p [] = sym (larger_none p)
+folded p (q ∷ l) = folded (larger p q) l ∙ larger_assoc p q (front_of l)
+
+pub reduced : (l : List Part) → unwrap_or (reduce larger l) (record { address = 0; from = 0; to = 0 }) ≡ front_of l
+unfolding front_of
+reduced [] = refl
+reduced (p ∷ l) = folded p l
+
+-- ---- a part that is tried twice
 
 -- each part ends by the start of all after it
 unfoldable pub Rows : List Part → Type 0
@@ -68,12 +91,12 @@ misses_all a =
     rw (le-leb 0 a first, lt-leb (a + 8) 0 past)
 
 -- ways to find a word twice: in a part tried again, and in one that the part between them does not hide
-twice : (b : Bool) (x y : Read) → pick b x (pick b x y) ≡ pick b x y
+twice : (b : Bool) (x y : Option ℕ) → pick b x (pick b x y) ≡ pick b x y
 unfolding pick
 twice true x y = refl
 twice false x y = refl
 
-over : (b c : Bool) (x y z : Read) → (b ≡ true → c ≡ false) → pick b x z ≡ z → pick b x (pick c y z) ≡ pick c y z
+over : (b c : Bool) (x y z : Option ℕ) → (b ≡ true → c ≡ false) → pick b x z ≡ z → pick b x (pick c y z) ≡ pick c y z
 unfolding pick
 over false c x y z hides e = refl
 over true c x y z hides e = e ∙ sym (pick_false c y z (hides refl))

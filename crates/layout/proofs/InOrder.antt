@@ -3,22 +3,26 @@
 use mathlib.Core.Path.{◌≡◌, refl}
 use mathlib.Core.Bool.{true, false}
 use mathlib.Core.List.{List, [], ◌∷◌, map}
-use Prim.Native.Nat.{ℕ, ◌≤◌}
+use Prim.Native.Nat.{ℕ, ◌≤◌, ◌<◌, max}
 use native.Mathlib.Omega.{arith}
 use lib.Dec.{leb}
 use borrow.Author.Tests.{leb-true, leb-false, le-ltb}
 use Rattle.bits.proofs.Tests.{and_left, and_right, by_pick}
-use Rattle.capture.specs.Capture.{Bank, least, part}
+use Rattle.capture.specs.Capture.{least, part}
+use Rattle.capture.specs.declared.Bank.{Bank}
 use Rattle.capture.specs.declared.Part.{Part}
-use Rattle.capture.proofs.Lesser.{least_within, part_lies}
+use Rattle.capture.proofs.Lesser.{least_min, part_lies}
 use Rattle.layout.specs.Elf.{greatest, meets, clear, apart}
 use Rattle.layout.specs.Calls.{in_order}
+
+pub greatest_max : (a b : ℕ) → greatest a b ≡ max a b
+greatest_max a b = by_pick (λ n. n ≡ max a b) (leb a b) b a (λ e. let h : a ≤ b = leb-true a b e in omega arith) (λ e. let h : b < a = leb-false a b e in omega arith)
 
 -- a part at or past the end of a range has no byte of it
 missed : (from to : ℕ) (p : Part) → to ≤ p.from → meets from to p ≡ false
 missed from to p h =
-    let low = (least_within to p.to).0 in
-    let high : p.from ≤ greatest from p.from = by_pick (λ n. p.from ≤ n) (leb from p.from) p.from from (λ e. omega arith) (λ e. omega (arith, leb-false from p.from e)) in
+    let low = least_min to p.to in
+    let high = greatest_max from p.from in
     le-ltb (greatest from p.from) (least to p.to) (omega (arith, low, high, h))
 
 module _ (total : ℕ) where

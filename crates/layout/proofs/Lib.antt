@@ -1,11 +1,12 @@
-pub mod Numbers
 pub mod Banks
 pub mod Headed
 pub mod Headers
-pub mod Steps
 pub mod InOrder
 pub mod Front
 pub mod Parts
 pub mod Bounds
 pub mod Raw
 pub mod Core
+pub mod Recursions
+pub mod Numbers
+pub mod Written

@@ -3,7 +3,8 @@
 -- Assumes nothing.
 use Rattle.std.specs.Prelude.{Bool, true, not, ◌&&◌, ◌||◌, List, [], ◌∷◌, map, ℕ, zero, suc, ◌+◌, ◌*◌, leb, ltb, eqb, length, take, drop}
 use Rattle.bits.specs.Bits.{pick}
-use Rattle.capture.specs.Capture.{little, Bank, least, part}
+use Rattle.capture.specs.Capture.{little, least, part}
+use Rattle.capture.specs.declared.Bank.{Bank}
 use Rattle.capture.specs.declared.Part.{Part}
 
 -- the number in n bytes of a file, from one place on

@@ -1,9 +1,9 @@
 -- How a file is read as a capture: where its banks lie (01, What one question holds; 02, §1).
 -- Assumes nothing.
-use Rattle.std.specs.Prelude.{◌≡◌, Bool, false, not, List, [], ◌∷◌, map, ℕ, ◌+◌, ◌<◌, length, get_or}
+use Rattle.std.specs.Prelude.{◌≡◌, Bool, false, not, List, [], ◌∷◌, map, ℕ, ◌+◌, ◌<◌, length, get_or, Option}
 use Rattle.reads.specs.Program.{Request}
-use Rattle.reads.specs.declared.Read.{Read}
-use Rattle.capture.specs.Capture.{Bank, part, memory}
+use Rattle.capture.specs.Capture.{part, memory}
+use Rattle.capture.specs.declared.Bank.{Bank}
 use Rattle.capture.specs.declared.Part.{Part}
 use Rattle.layout.specs.Elf.{is_core, banks, headers_at, headers_end, header_size}
 
@@ -30,7 +30,7 @@ abbrev pub parts_of : Form → (file : List ℕ) → List Part
 parts_of form file = map (part (length file)) (layout form file).banks
 
 -- what a capture holds. Every contract and every promise speaks of this memory.
-abbrev pub captured : Form → (file : List ℕ) → Request → Read
+abbrev pub captured : Form → (file : List ℕ) → Request → Option ℕ
 captured form file = memory (parts_of form file) file
 
 -- two files have the same bounds: the same length, and the same banks

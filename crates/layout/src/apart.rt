@@ -1,123 +1,76 @@
 // Whether banks are in order and share no byte of the file, with each other or with the headers.
-ghost use Rattle.std.specs.Prelude.{◌≡◌, ◌&&◌, map, ◌+◌, ◌-◌, ◌*◌, ◌≤◌, ◌<◌, leb};
+ghost use Rattle.std.specs.Prelude.{◌≡◌, map, ◌+◌, ◌≤◌, leb};
 ghost use Rattle.capture.specs.Capture as Captures;
-ghost use Rattle.capture.specs.Calls.{count_of};
 ghost use Rattle.layout.specs.Elf as Elf;
 ghost use Rattle.layout.specs.Calls as Calls;
 
-use capture::Part;
+use capture::{Bank, Part};
 
-// Some bytes at an address end by the next. No sum wraps.
-fn ends_by(address: u64, size: u64, next: u64) -> bool
-    ensures { result ≡ leb (address + size) next }
+// Some bytes from a place on end by another. No sum wraps.
+pub(crate) fn ends_by(from: u64, bytes: u64, to: u64) -> bool
+    ensures { result ≡ leb (from + bytes) to }
 {
-    if address <= next {
-        size <= next - address
-    } else {
-        false
-    }
+    from <= to && bytes <= to - from
 }
 
 // Each bank starts at or past the end of the one before it, by the sizes that the headers say.
-fn ascend(banks: &[u64]) -> bool
-    ensures { result ≡ Elf.ascend (Calls.banks_by banks.now) }
+fn ascend(banks: &[Bank]) -> bool
+    ensures { result ≡ Elf.ascend banks.now }
 {
-    let count = banks.len() / 3;
-    let mut i = 1;
-    while i < count {
-        if !ends_by(banks[3 * i - 3], banks[3 * i - 1], banks[3 * i]) {
-            return false;
-        }
-        i += 1;
-    }
-    true
+    banks.is_sorted_by(|b, c| ends_by(b.address, b.size, c.address))
 }
 
 // A part and the bytes of the file from one place to before another share a byte.
 pub(crate) fn meets(from: u64, to: u64, p: Part) -> bool
     ensures { result ≡ Elf.meets from to p }
 {
-    let first = p.from as u64;
-    let end = p.to as u64;
-    let low = if from <= first { first } else { from };
-    let high = if to <= end { to } else { end };
-    low < high
+    from.max(p.from as u64) < to.min(p.to as u64)
 }
 
-// What a file of some bytes has of the i-th bank.
-fn part_of(total: u64, banks: &[u64], i: usize) -> Part
-    requires { i < count_of banks.now }
-    ensures { result ≡ Captures.part total (Calls.bank_by banks.now i) }
+// No bank has a byte of the file from one place to before another.
+fn clear(total: u64, banks: &[Bank], from: u64, to: u64) -> bool
+    ensures { result ≡ Elf.clear from to (map (Captures.part total) banks.now) }
 {
-    capture::of_bank(total, banks[3 * i], banks[3 * i + 1], banks[3 * i + 2])
-}
-
-// No bank from the first-th on has a byte of the file from one place to before another.
-fn clear(total: u64, banks: &[u64], first: usize, from: u64, to: u64) -> bool
-    requires { first ≤ count_of banks.now }
-    ensures { result ≡ Elf.clear from to (map (Captures.part total) (Calls.banks_on banks.now first (count_of banks.now - first))) }
-{
-    let count = banks.len() / 3;
-    let mut i = first;
-    while i < count {
-        if meets(from, to, part_of(total, banks, i)) {
-            return false;
-        }
-        i += 1;
-    }
-    true
+    banks.iter().all(|b| !meets(from, to, b.part(total)))
 }
 
 // Each bank stands in the file at or past the end of the one before it.
-fn in_order(total: u64, banks: &[u64]) -> bool
-    ensures { result ≡ Calls.in_order 0 (map (Captures.part total) (Calls.banks_by banks.now)) }
+fn in_order(total: u64, banks: &[Bank]) -> bool
+    ensures { result ≡ Calls.in_order 0 (map (Captures.part total) banks.now) }
 {
-    let count = banks.len() / 3;
     let mut end = 0;
-    let mut i = 0;
-    while i < count {
-        let p = part_of(total, banks, i);
+    for bank in banks {
+        let p = bank.part(total);
         if p.from < end {
             return false;
         }
         end = p.to;
-        i += 1;
     }
     true
 }
 
 // No byte of the file lies in two banks. Where they stand in order, as programs write them, no two need be compared.
-fn apart(total: u64, banks: &[u64]) -> bool
-    ensures { result ≡ Elf.apart (map (Captures.part total) (Calls.banks_by banks.now)) }
+fn apart(total: u64, banks: &[Bank]) -> bool
+    ensures { result ≡ Elf.apart (map (Captures.part total) banks.now) }
 {
     if in_order(total, banks) {
         return true;
     }
-    let count = banks.len() / 3;
-    let mut i = 0;
-    while i < count {
-        let p = part_of(total, banks, i);
-        if !clear(total, banks, i + 1, p.from as u64, p.to as u64) {
+    for (i, bank) in banks.iter().enumerate() {
+        let p = bank.part(total);
+        if !clear(total, &banks[i + 1..], p.from as u64, p.to as u64) {
             return false;
         }
-        i += 1;
     }
     true
 }
 
 // Banks are as a file of some bytes may have them, with program headers from one place to before another.
-pub(crate) fn well_laid(total: u64, banks: &[u64], at: u64, end: u64) -> bool
-    ensures { result ≡ Elf.well_laid total (Calls.banks_by banks.now) at end }
+pub(crate) fn well_laid(total: u64, banks: &[Bank], at: u64, end: u64) -> bool
+    ensures { result ≡ Elf.well_laid total banks.now at end }
 {
-    if !ascend(banks) {
-        return false;
-    }
-    if !apart(total, banks) {
-        return false;
-    }
-    if clear(total, banks, 0, 0, 64) {
-        clear(total, banks, 0, at, end)
-    } else {
-        false
-    }
+    ascend(banks)
+        && apart(total, banks)
+        && clear(total, banks, 0, 64)
+        && clear(total, banks, at, end)
 }

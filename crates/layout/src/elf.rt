@@ -1,46 +1,22 @@
 // The headers of an ELF64 core file, little-endian.
-ghost use Rattle.std.specs.Prelude.{◌≡◌, true, ◌+◌, ◌*◌, ◌≤◌, leb, length};
+ghost use Rattle.std.specs.Prelude.{◌≡◌, false, ◌+◌, ◌*◌, ◌^◌, ◌<◌, ◌≤◌, length, MatchOption};
 ghost use Rattle.std.proofs.lemmas.List.Edits.{sets};
 ghost use Rattle.layout.specs.Elf as Elf;
 ghost use Rattle.layout.specs.Calls as Calls;
 
-// A byte as a word.
-fn wide(x: u8) -> u64
-    ensures { (result ≡ x) × (result ≤ 255) }
-{
-    x as u64
-}
+use crate::apart::ends_by;
+use capture::Bank;
 
-// The number in one byte, in two, in four and in eight.
-fn one(file: &[u8], i: usize) -> u64
-    requires { i + 1 ≤ length file.now }
-    ensures { result ≡ Elf.number 1 i file.now }
+// The number in N bytes from a place on, of which there are at most eight.
+fn number<const N: usize>(file: &[u8], at: usize) -> u64
+    requires room { at + N ≤ length file.now }
+    requires small { N ≤ 8 }
+    ensures value { result ≡ Elf.number N at file.now }
+    ensures bound { result < 256 ^ N }
 {
-    wide(file[i])
-}
-
-fn two(file: &[u8], i: usize) -> u64
-    requires { i + 2 ≤ length file.now }
-    ensures { (result ≡ Elf.number 2 i file.now) × (result ≤ 0xffff) }
-{
-    wide(file[i]) + wide(file[i + 1]) * 0x100
-}
-
-fn four(file: &[u8], i: usize) -> u64
-    requires { i + 4 ≤ length file.now }
-    ensures { result ≡ Elf.number 4 i file.now }
-{
-    wide(file[i])
-        + wide(file[i + 1]) * 0x100
-        + wide(file[i + 2]) * 0x1_0000
-        + wide(file[i + 3]) * 0x100_0000
-}
-
-fn eight(file: &[u8], i: usize) -> u64
-    requires { i + 8 ≤ length file.now }
-    ensures { result ≡ Elf.number 8 i file.now }
-{
-    capture::word(file, i)
+    let mut bytes = [0u8; 8];
+    bytes[..N].copy_from_slice(&file[at..at + N]);
+    u64::from_le_bytes(bytes)
 }
 
 // An ELF header of this kind: its magic, class 64, little-endian, a core file (4) of machine 183, with program headers of 56 bytes.
@@ -48,122 +24,103 @@ fn is_of_kind(file: &[u8]) -> bool
     requires { 64 ≤ length file.now }
     ensures { result ≡ Elf.of_kind file.now }
 {
-    (four(file, 0) == 0x464c_457f)
-        & (one(file, 4) == 2)
-        & (one(file, 5) == 1)
-        & (two(file, 16) == 4)
-        & (two(file, 18) == 183)
-        & (two(file, 54) == 56)
+    (number::<4>(file, 0) == 0x464c_457f)
+        & (number::<1>(file, 4) == 2)
+        & (number::<1>(file, 5) == 1)
+        & (number::<2>(file, 16) == 4)
+        & (number::<2>(file, 18) == 183)
+        & (number::<2>(file, 54) == 56)
 }
 
-// How many program headers there are, as the ELF header says.
-pub(crate) fn header_count(file: &[u8]) -> usize
-    requires { 64 ≤ length file.now }
-    ensures { (result ≡ Elf.header_count file.now) × (result ≤ 0xffff) }
-{
-    two(file, 56) as usize
+// Where the program headers stand, and how many there are, as the ELF header says.
+#[derive(Clone, Copy)]
+pub(crate) struct Headers {
+    pub(crate) at: u64,
+    pub(crate) count: u64,
 }
 
-// Some bytes from a place on lie in a file. No sum wraps.
-fn lie(length: u64, at: u64, bytes: u64) -> bool
-    ensures { result ≡ leb (at + bytes) length }
-{
-    if at <= length {
-        bytes <= length - at
-    } else {
-        false
+// How many of some program headers are banks, and where the last of those stands.
+#[derive(Clone, Copy)]
+pub(crate) struct Tally {
+    pub(crate) count: usize,
+    pub(crate) last: usize,
+}
+
+impl Headers {
+    // The program headers of a file that wholly has both kinds of headers.
+    pub(crate) fn read(file: &[u8]) -> Option<Headers>
+        ensures { MatchOption result (Elf.headed file.now ≡ false) (λ h. Calls.Heads file.now h) }
+    {
+        if file.len() < 64 || !is_of_kind(file) {
+            return None;
+        }
+        let headers = Headers {
+            at: number::<8>(file, 32),
+            count: number::<2>(file, 56),
+        };
+        let fits = (headers.count == 0)
+            | ends_by(headers.at, 56 * headers.count, file.len() as u64);
+        fits.then_some(headers)
     }
-}
 
-// Both kinds of headers are there.
-pub(crate) fn is_headed(file: &[u8]) -> bool
-    ensures { result ≡ Elf.headed file.now }
-{
-    if file.len() < 64 {
-        return false;
+    // Where they end.
+    pub(crate) fn end(self) -> u64
+        requires { self.at + 56 * self.count < 2 ^ 64 }
+        ensures { result ≡ self.at + 56 * self.count }
+    {
+        self.at + 56 * self.count
     }
-    if !is_of_kind(file) {
-        return false;
-    }
-    let n = header_count(file) as u64;
-    (n == 0) | lie(file.len() as u64, eight(file, 32), 56 * n)
-}
 
-// Where the program headers stand, as the ELF header says.
-pub(crate) fn headers_at(file: &[u8]) -> u64
-    requires { 64 ≤ length file.now }
-    ensures { result ≡ Elf.headers_at file.now }
-{
-    eight(file, 32)
+    // How many of them are banks.
+    pub(crate) fn count_banks(self, file: &[u8]) -> Tally
+        requires { Calls.There self (length file.now) }
+        ensures { Calls.Tallies file.now self result }
+    {
+        let first = self.at as usize;
+        let mut count = 0;
+        let mut last = first;
+        for i in 0..self.count as usize {
+            let at = first + 56 * i;
+            if is_bank(file, at) {
+                count += 1;
+                last = at;
+            }
+        }
+        Tally { count, last }
+    }
+
+    // Those, over the first of the banks lent.
+    pub(crate) fn write_banks(self, file: &[u8], banks: &mut [Bank])
+        requires { Calls.There self (length file.now) × (length (Elf.banks_from self.count self.at file.now) ≤ length banks.old) }
+        ensures { banks.new ≡ sets banks.old 0 (Elf.banks_from self.count self.at file.now) }
+    {
+        let first = self.at as usize;
+        let mut count = 0;
+        for i in 0..self.count as usize {
+            let at = first + 56 * i;
+            if is_bank(file, at) {
+                banks[count] = bank_at(file, at);
+                count += 1;
+            }
+        }
+    }
 }
 
 fn is_bank(file: &[u8], at: usize) -> bool
     requires { at + 56 ≤ length file.now }
     ensures { result ≡ Elf.is_bank at file.now }
 {
-    four(file, at) == 1
+    number::<4>(file, at) == 1
 }
 
 // What a program header says of its bank.
-#[derive(Clone, Copy)]
-pub struct Header {
-    pub address: u64,
-    pub offset: u64,
-    pub size: u64,
-}
-
-pub(crate) fn header_at(file: &[u8], at: usize) -> Header
+pub(crate) fn bank_at(file: &[u8], at: usize) -> Bank
     requires { at + 56 ≤ length file.now }
-    ensures { Calls.bank_of result ≡ Elf.bank_at at file.now }
+    ensures { result ≡ Elf.bank_at at file.now }
 {
-    Header {
-        address: eight(file, at + 24),
-        offset: eight(file, at + 8),
-        size: eight(file, at + 32),
-    }
-}
-
-// How many of some program headers are banks, and where the last of those stands.
-#[derive(Clone, Copy)]
-pub struct Tally {
-    pub count: usize,
-    pub last: usize,
-}
-
-pub(crate) fn count_banks(file: &[u8], at: usize, n: usize) -> Tally
-    requires { Calls.There at n (length file.now) }
-    ensures { Calls.Tallies file.now at n result }
-{
-    let mut count = 0;
-    let mut last = at;
-    let mut i = 0;
-    while i < n {
-        let header = at + 56 * i;
-        if is_bank(file, header) {
-            count += 1;
-            last = header;
-        }
-        i += 1;
-    }
-    Tally { count, last }
-}
-
-// Their words, one after the other, over the first of those lent.
-pub(crate) fn write_banks(file: &[u8], at: usize, n: usize, words: &mut [u64])
-    requires { Calls.There at n (length file.now) × (3 * length (Elf.banks_from n at file.now) ≤ length words.old) }
-    ensures { words.new ≡ sets words.old 0 (Calls.said_words (Elf.banks_from n at file.now)) }
-{
-    let mut k = 0;
-    let mut i = 0;
-    while i < n {
-        let header = at + 56 * i;
-        if is_bank(file, header) {
-            let bank = header_at(file, header);
-            words[k] = bank.address;
-            words[k + 1] = bank.offset;
-            words[k + 2] = bank.size;
-            k += 3;
-        }
-        i += 1;
+    Bank {
+        address: number::<8>(file, at + 24),
+        offset: number::<8>(file, at + 8),
+        size: number::<8>(file, at + 32),
     }
 }

@@ -1,219 +1,132 @@
 // Where the banks of a core file lie, by its headers, and what the file has of them (02, §1).
-// A bank is three words side by side: its address, its offset in the file and its size, as its header says them. What the file has of it
-// is three words too: the address, and from where to before where its bytes stand.
 #![tactic(auto)]
 
-ghost use Rattle.std.specs.Prelude.{◌≡◌, map, ◌+◌, ◌*◌, ◌≤◌, ◌<◌, length, take};
+ghost use Rattle.std.specs.Prelude.{◌≡◌, map, ◌≤◌, length};
 ghost use Rattle.std.proofs.lemmas.List.Edits.{sets};
 ghost use Rattle.capture.specs.Capture as Captures;
-ghost use Rattle.capture.specs.Calls.{count_of, part_at};
-ghost use Rattle.layout.specs.Elf as Elf;
 ghost use Rattle.layout.specs.Calls as Calls;
 
-use capture::{Front, Part};
+use capture::{Bank, Front, Part};
+use elf::Headers;
 
 pub mod apart;
 pub mod elf;
+pub mod memories;
 
-// The banks that a core file may have, and the words that they take.
+// The banks that a core file may have.
 pub const MOST_BANKS: usize = 64;
 
-pub const BANK_WORDS: usize = 192;
-
-// What the headers say.
-#[derive(Clone, Copy)]
-pub struct Said {
-    // The file is accepted.
-    pub readable: bool,
-    // How many banks it has, if it is.
-    pub count: usize,
-}
+// Room for them, lent with a count of those that there are: the library has no heap.
+pub const NO_BANKS: [Bank; MOST_BANKS] = [Bank {
+    address: 0,
+    offset: 0,
+    size: 0,
+}; MOST_BANKS];
 
 // What the file has.
 #[derive(Clone, Copy)]
 pub struct Laid {
-    pub readable: bool,
-    // A bank ends past 2^48.
+    // A bank ends past 2^48. A flag and no error: of a file with such a bank `Lays` promises all that it promises of another.
     pub high: bool,
+    // How many parts are written, over the first of those lent.
     pub count: usize,
     pub front: Front,
 }
 
-// The bank of a core file that is accepted and has one alone: it is the part in front, and no words are needed.
+// The bank of a core file that is accepted and has one alone: it is the part in front, and no others are needed.
 #[derive(Clone, Copy)]
 pub struct Lone {
-    pub found: bool,
-    // It ends past 2^48.
+    // It ends past 2^48. A flag and no error: of a file with such a bank `Alone` promises all that it promises of another.
     pub high: bool,
     pub front: Front,
 }
 
-fn unreadable() -> Said
-    ensures { result ≡ Calls.refused_headers }
+// The banks of a core file that is accepted, as its headers say them, over the first of those lent; how many there are.
+pub fn read_headers(file: &[u8], banks: &mut [Bank]) -> Option<usize>
+    requires { 64 ≤ length banks.old }
+    ensures { Calls.Reads file.now banks.old result banks.new }
 {
-    Said {
-        readable: false,
-        count: 0,
+    let headers = Headers::read(file)?;
+    let count = headers.count_banks(file).count;
+    if count > MOST_BANKS {
+        return None;
     }
-}
-
-// The banks of a core file, as its headers say them.
-pub fn read_headers(file: &[u8], words: &mut [u64]) -> Said
-    requires { 192 ≤ length words.old }
-    ensures { Calls.Reads file.now words.old result words.new }
-{
-    if !elf::is_headed(file) {
-        return unreadable();
-    }
-    let n = elf::header_count(file);
-    let at = elf::headers_at(file);
-    let first = at as usize;
-    let banks = elf::count_banks(file, first, n);
-    let count = banks.count;
-    if MOST_BANKS < count {
-        return unreadable();
-    }
-    elf::write_banks(file, first, n, words);
-    let end = 3 * count;
-    if apart::well_laid(file.len() as u64, &words[0..end], at, at + 56 * n as u64) {
-        Said {
-            readable: true,
-            count,
-        }
-    } else {
-        unreadable()
-    }
+    headers.write_banks(file, banks);
+    let total = file.len() as u64;
+    apart::well_laid(total, &banks[..count], headers.at, headers.end()).then_some(count)
 }
 
 // Any bank ends past 2^48, by the sizes that the headers say.
-fn any_high(banks: &[u64]) -> bool
-    ensures { result ≡ Captures.any_high (Calls.banks_by banks.now) }
+fn any_high(banks: &[Bank]) -> bool
+    ensures { result ≡ Captures.any_high banks.now }
 {
-    let count = banks.len() / 3;
-    let mut i = 0;
-    while i < count {
-        if capture::ends_high(banks[3 * i], banks[3 * i + 2]) {
-            return true;
-        }
-        i += 1;
-    }
-    false
+    banks.iter().any(|b| capture::ends_high(b.address, b.size))
 }
 
-// Each bank's words become those of what a file of some bytes has of it.
-fn keep(total: u64, count: usize, words: &mut [u64])
-    requires { 3 * count ≤ length words.old }
-    ensures { words.new ≡ sets words.old 0 (Calls.part_words (map (Captures.part total) (Calls.banks_on words.old 0 count))) }
+// What a file of some bytes has of each bank, over the first of the parts lent.
+fn keep(total: u64, banks: &[Bank], parts: &mut [Part])
+    requires { length banks.now ≤ length parts.old }
+    ensures { parts.new ≡ sets parts.old 0 (map (Captures.part total) banks.now) }
 {
-    let mut i = 0;
-    while i < count {
-        let p = capture::of_bank(total, words[3 * i], words[3 * i + 1], words[3 * i + 2]);
-        words[3 * i + 1] = p.from as u64;
-        words[3 * i + 2] = p.to as u64;
-        i += 1;
+    for (i, bank) in banks.iter().enumerate() {
+        parts[i] = bank.part(total);
     }
 }
 
-// The i-th part.
-fn part_at(parts: &[u64], i: usize) -> Part
-    requires { i < count_of parts.now }
-    ensures { result ≡ part_at parts.now i }
-{
-    Part {
-        address: parts[3 * i],
-        from: parts[3 * i + 1] as usize,
-        to: parts[3 * i + 2] as usize,
-    }
-}
-
+// The larger of two parts, the first of those that are alike. `Ord` on parts would have to say that a part's address does not count.
 fn larger(p: Part, q: Part) -> Part
     ensures { result ≡ Calls.larger p q }
 {
-    if capture::kept(q) <= capture::kept(p) {
-        p
-    } else {
-        q
-    }
+    if q.kept() <= p.kept() { p } else { q }
 }
 
 // The largest part; no byte where there is none. It is the one that most descriptors are likely to lie in.
-fn front_of(parts: &[u64]) -> Part
-    ensures { result ≡ Calls.front_by parts.now }
+fn front_of(parts: &[Part]) -> Part
+    ensures { result ≡ Calls.front_of parts.now }
 {
-    let mut largest = Part {
+    let none = Part {
         address: 0,
         from: 0,
         to: 0,
     };
-    let mut i = parts.len() / 3;
-    while 0 < i {
-        i -= 1;
-        largest = larger(part_at(parts, i), largest);
-    }
-    largest
+    parts.iter().copied().reduce(larger).unwrap_or(none)
 }
 
-// What the file has of the banks of a core file. The words are meant for the call's own use: where the file is refused they are left
-// as the headers said them, or as they were.
-pub fn lay_out(file: &[u8], words: &mut [u64]) -> Laid
-    requires { 192 ≤ length words.old }
-    ensures { Calls.Lays file.now result words.new }
+// What the file has of the banks of a core file, over the first of the parts lent. Where it is refused, they are left as they were.
+pub fn lay_out(file: &[u8], parts: &mut [Part]) -> Option<Laid>
+    requires { 64 ≤ length parts.old }
+    ensures { Calls.Lays file.now parts.old result parts.new }
 {
-    let banks = read_headers(file, words);
-    let readable = banks.readable;
-    let count = banks.count;
-    let end = 3 * count;
-    let high = any_high(&words[0..end]);
-    keep(file.len() as u64, count, words);
-    Laid {
-        readable,
-        high,
+    let mut banks = NO_BANKS;
+    let count = read_headers(file, &mut banks)?;
+    let banks = &banks[..count];
+    keep(file.len() as u64, banks, parts);
+    Some(Laid {
+        high: any_high(banks),
         count,
-        front: capture::ahead(front_of(&words[0..end])),
-    }
-}
-
-fn none_alone() -> Lone
-    ensures { result ≡ Calls.no_lone }
-{
-    Lone {
-        found: false,
-        high: false,
-        front: Front {
-            part: Part {
-                address: 0,
-                from: 0,
-                to: 0,
-            },
-            back: 0,
-        },
-    }
+        front: Front::new(front_of(&parts[..count])),
+    })
 }
 
 // The bank of a core file that has one alone. A single bank is in order and apart from every other.
-pub fn lone_bank(file: &[u8]) -> Lone
+pub fn lone_bank(file: &[u8]) -> Option<Lone>
     ensures { Calls.Alone file.now result }
 {
-    if !elf::is_headed(file) {
-        return none_alone();
-    }
-    let n = elf::header_count(file);
-    let at = elf::headers_at(file);
-    let banks = elf::count_banks(file, at as usize, n);
+    let headers = Headers::read(file)?;
+    let banks = headers.count_banks(file);
     if banks.count != 1 {
-        return none_alone();
+        return None;
     }
-    let bank = elf::header_at(file, banks.last);
-    let part = capture::of_bank(file.len() as u64, bank.address, bank.offset, bank.size);
+    let bank = elf::bank_at(file, banks.last);
+    let part = bank.part(file.len() as u64);
     if apart::meets(0, 64, part) {
-        return none_alone();
+        return None;
     }
-    if apart::meets(at, at + 56 * n as u64, part) {
-        return none_alone();
+    if apart::meets(headers.at, headers.end(), part) {
+        return None;
     }
-    Lone {
-        found: true,
+    Some(Lone {
         high: capture::ends_high(bank.address, bank.size),
-        front: capture::ahead(part),
-    }
+        front: Front::new(part),
+    })
 }

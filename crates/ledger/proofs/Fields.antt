@@ -2,16 +2,16 @@
 -- Assumes nothing.
 use mathlib.Core.Path.{◌≡◌, refl, ◌∙◌}
 use mathlib.Core.Bool.{true, false}
-use mathlib.Core.List.{List, append_assoc, append-nil}
-use Prim.Native.Nat.{ℕ, ◌-◌, ◌≤◌, ◌<◌}
+use mathlib.Core.List.{List, ◌++◌, append_assoc, append-nil}
+use Prim.Native.Nat.{ℕ, ◌+◌, ◌≤◌, ◌<◌}
 use native.Mathlib.Omega.{arith}
 use borrow.Author.Tests.{lt-ltb, le-ltb}
 use lib.Dec.{ltb}
-use lib.ListN.{length, take, drop, length-append}
-use lib.Seq.{sets, take-length, drop-length}
+use lib.ListN.{drop_of_length-le, length, drop, length-append}
+use lib.Seq.{sets-eq}
 use Rattle.bits.proofs.Tests.{pick_true, pick_false}
 use Rattle.ledger.specs.declared.Ledger.{Ledger}
-use Rattle.ledger.specs.declared.line.LineAnswer.TheVariants.{Written, Short}
+use Rattle.std.specs.Prelude.{Some, None}
 use Rattle.ledger.specs.Ledger.{ascii, decimal, line}
 use Rattle.ledger.specs.Line.{Put, Field, sorts, line_into, LineTells}
 use Rattle.ledger.proofs.Page.{put_before}
@@ -38,17 +38,21 @@ sorts_most l =
 
 -- ---- the line in a buffer, by the page that ends with it
 
-module _ (l : Ledger) (page₀ page buffer : List ℕ) (start : ℕ) (put : Put (line l) page₀ (length page₀) page start) where
-  pub tells_short : length buffer < length page₀ - start → LineTells (line_into l buffer) Short buffer
+-- what stands at the page's end is the line
+pub whole : (l : Ledger) {page₀ page : List ℕ} {at start : ℕ} → length page₀ ≤ at → Put (line l) page₀ at page start → drop start page ≡ line l
+whole l {page₀} {at = at} end put = put.stands ∙ rw (drop_of_length-le page₀ {i = at} end, append-nil (line l))
+
+module _ (l : Ledger) (buffer : List ℕ) where
+  pub tells_short : length buffer < length (line l) → LineTells (line_into l buffer) None buffer
   unfolding line_into
   tells_short short =
-      let test : ltb (length buffer) (length (line l)) ≡ true = lt-ltb (length buffer) (length (line l)) (omega (arith, put.placed)) in
+      let test : ltb (length buffer) (length (line l)) ≡ true = lt-ltb (length buffer) (length (line l)) short in
       record { answered = rw (pick_true _ _ _ test) refl; written = rw (pick_true _ _ _ test) refl }
 
-  pub tells_written : length page₀ - start ≤ length buffer → LineTells (line_into l buffer) (Written (length page₀ - start)) (sets buffer 0 (take (length page₀ - start) (drop start page)))
+  pub tells_written : length (line l) ≤ length buffer
+      → LineTells (line_into l buffer) (Some (length (line l))) (line l ++ drop (length (line l)) buffer)
   unfolding line_into
   tells_written long =
-      let size : length page₀ - start ≡ length (line l) = omega (arith, put.placed) in
-      let test : ltb (length buffer) (length (line l)) ≡ false = le-ltb (length buffer) (length (line l)) (omega (arith, put.placed)) in
-      let whole : drop start page ≡ line l = put.stands ∙ rw drop-length (append-nil (line l)) in
-      record { answered = rw (pick_false _ _ _ test, size) refl; written = rw (pick_false _ _ _ test, size, whole, take-length) refl }
+      let test : ltb (length buffer) (length (line l)) ≡ false = le-ltb (length buffer) (length (line l)) long in
+      let from_0 : 0 + length (line l) ≡ length (line l) = omega arith in
+      record { answered = rw (pick_false _ _ _ test) refl; written = rw (pick_false _ _ _ test, sets-eq (line l) buffer 0 (omega arith), from_0) refl }

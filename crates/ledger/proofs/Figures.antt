@@ -1,13 +1,14 @@
 -- The figures of a list of answer numbers, by how many of them are below the bounds between the sorts; and that they add up.
 -- Assumes nothing.
 use mathlib.Core.Path.{◌≡◌, refl}
-use mathlib.Core.Bool.{◌&&◌}
+use mathlib.Core.Bool.{Bool, true, false, ◌&&◌}
 use mathlib.Core.List.{List, [], ◌∷◌}
 use Prim.Native.Nat.{ℕ, zero, suc, ◌+◌, ◌-◌, ◌≤◌, ◌<◌}
 use native.Mathlib.Numerals.{add-one}
 use native.Mathlib.Omega.{arith}
 use borrow.Author.Tests.{leb-true, leb-false, eqb-true, eqb-false, le-leb}
 use lib.Dec.{ltb, leb, eqb}
+use mir.Val.{bool_byte}
 use lib.ListN.{length, take, get_or}
 use lib.Seq.{take_all}
 use Rattle.bits.specs.Bits.{pick}
@@ -52,9 +53,17 @@ pub counted_start : (k : ℕ) (l : List ℕ) → Counted k l 0 0
 unfolding count
 counted_start k l = record { few = omega arith; exact = refl }
 
-pub counted_next : {k : ℕ} {l : List ℕ} {i counted one : ℕ} → i < length l → Counted k l i counted → (one ≡ pick (ltb (get_or l i 0) k) 1 0) × (one ≤ 1) →
+-- a test as a number
+one_for : (b : Bool) → (bool_byte b ≡ pick b 1 0) × (bool_byte b ≤ 1)
+unfolding pick
+one_for true = (refl, omega arith)
+one_for false = (refl, omega arith)
+
+pub counted_next : {k : ℕ} {l : List ℕ} {i counted one : ℕ} → i < length l → Counted k l i counted → one ≡ bool_byte (ltb (get_or l i 0) k) →
     Counted k l (i + 1) (counted + one)
-counted_next {k} {l} {i} h w e = record { few = omega arith; exact = rw add-one (omega (arith, below_suc k i l h)) }
+counted_next {k} {l} {i} h w e =
+    let o = one_for (ltb (get_or l i 0) k) in
+    record { few = omega arith; exact = rw add-one (omega (arith, below_suc k i l h)) }
 
 -- ---- the figures of a whole list
 

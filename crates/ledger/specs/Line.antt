@@ -1,27 +1,25 @@
 -- The ledger's line in a lent buffer, and what the code's steps to it give.
 -- Assumes nothing.
-use Rattle.std.specs.Prelude.{◌≡◌, List, ◌++◌, ℕ, ◌+◌, ◌≤◌, ltb, length, drop}
+use Rattle.std.specs.Prelude.{◌≡◌, List, ◌++◌, ℕ, ◌+◌, ◌≤◌, ltb, length, drop, Option, Some, None}
 use Rattle.std.proofs.lemmas.List.Edits.{sets}
 use Rattle.bits.specs.Bits.{pick}
 use Rattle.ledger.specs.declared.Ledger.{Ledger}
-use Rattle.ledger.specs.declared.line.LineAnswer.{LineAnswer}
-use Rattle.ledger.specs.declared.line.LineAnswer.TheVariants.{Written, Short}
 use Rattle.ledger.specs.Ledger.{ascii, decimal, line}
 
 -- what writing the line gives: its answer, and the lent buffer afterwards
 pub record LineTold : Type 0 where
-  pub answer : LineAnswer
+  pub answer : Option ℕ
   pub buffer : List ℕ
 
 -- the line over a buffer's first bytes, and the bytes past it as they were; a buffer that is too short is left whole
 unfoldable pub line_into : Ledger → List ℕ → LineTold
 line_into l buffer =
     pick (ltb (length buffer) (length (line l)))
-    (record { answer = Short; buffer = buffer })
-    (record { answer = Written (length (line l)); buffer = sets buffer 0 (line l) })
+    (record { answer = None; buffer = buffer })
+    (record { answer = Some (length (line l)); buffer = sets buffer 0 (line l) })
 
 -- a call that gave what writing the line gives
-pub record LineTells (t : LineTold) (answer : LineAnswer) (buffer : List ℕ) : Type 0 where
+pub record LineTells (t : LineTold) (answer : Option ℕ) (buffer : List ℕ) : Type 0 where
   pub answered : answer ≡ t.answer
   pub written : buffer ≡ t.buffer
 

@@ -1,8 +1,7 @@
 // The ledger of a batch: how many answers of each sort there were, and its line.
 #![tactic(auto)]
 
-ghost use Rattle.std.specs.Prelude.{◌≡◌, ℕ, ◌≤◌};
-ghost use Rattle.bits.specs.Bits.{pick};
+ghost use Rattle.std.specs.Prelude.{◌≡◌};
 ghost use Rattle.ledger.specs.Ledger as Ledgers;
 
 pub mod line;
@@ -18,13 +17,6 @@ pub struct Ledger {
     pub unsettled: u64,
 }
 
-// 1 where a test holds.
-fn one(test: bool) -> u64
-    ensures { (result ≡ pick {A = ℕ} test 1 0) × (result ≤ 1) }
-{
-    if test { 1 } else { 0 }
-}
-
 // The ledger of a list of answers' numbers. The sorts' numbers follow each other, 0, 1 to 5, 6, 7, so a sort's figure is the difference of two
 // counts: how many numbers are below its end, and below its start. Such a count is a comparison and an addition a number.
 pub fn count(numbers: &[u64]) -> Ledger
@@ -34,14 +26,11 @@ pub fn count(numbers: &[u64]) -> Ledger
     let mut below6 = 0;
     let mut below7 = 0;
     let mut below8 = 0;
-    let mut i = 0;
-    while i < numbers.len() {
-        let number = numbers[i];
-        below1 += one(number < 1);
-        below6 += one(number < 6);
-        below7 += one(number < 7);
-        below8 += one(number < 8);
-        i += 1;
+    for number in numbers {
+        below1 += u64::from(*number < 1);
+        below6 += u64::from(*number < 6);
+        below7 += u64::from(*number < 7);
+        below8 += u64::from(*number < 8);
     }
     Ledger {
         asked: numbers.len() as u64,

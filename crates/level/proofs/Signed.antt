@@ -17,7 +17,7 @@ use Rattle.level.specs.Level.{start2, size_check, levels_below}
 use Rattle.level.specs.declared.granule.Granule.{Granule}
 
 -- a number as the machine holds it
-abbrev held : ℤ → ℤ
+abbrev pub held : ℤ → ℤ
 held z = to_z w64 (of_z w64 z)
 
 mag_cond : (t : Bool) (x y n : ℕ) → x < n → y < n → mag (cond t (negsuc x) (pos y)) < n
@@ -30,9 +30,6 @@ difference_fits a (suc b) ha hb = record { sfits = mag_cond (ltb a (suc b)) _ _ 
 
 -- the difference of two numbers that were cast
 module _ (a n : ℕ) (ha : a < 2 ^ 63) (hn : n < 2 ^ 63) where
-  pub less_fits : SFits w64 (to_z w64 a -ℤ to_z w64 n)
-  less_fits = rw (to_z_pos w64 ha, to_z_pos w64 hn) (difference_fits a n ha hn)
-
   pub less_is : held (to_z w64 a -ℤ to_z w64 n) ≡ pos a -ℤ pos n
   less_is = rw (to_z_pos w64 ha, to_z_pos w64 hn) (to_z-of_z (difference_fits a n ha hn))
 

@@ -4,7 +4,8 @@ ghost use Rattle.level.specs.Granule as Granules;
 
 use descriptor::entry::Geometry;
 
-// What differs from granule to granule. All else follows from the log of its size.
+// What differs from granule to granule. All else follows from the log of its size. `Granular` stays a `requires`: the definitions build
+// granules as well, and as an invariant each of those would have to carry its proof.
 #[derive(Clone, Copy)]
 pub struct Granule {
     pub log: u64,
@@ -15,58 +16,48 @@ pub struct Granule {
     pub contiguous: u64,
 }
 
-fn four_k() -> Granule
-    ensures { result ≡ Granules.four_k }
-{
-    Granule {
-        log: 12,
-        first: 0,
-        over: 42,
-        contiguous: 34,
-    }
-}
+const FOUR_K: Granule = Granule {
+    log: 12,
+    first: 0,
+    over: 42,
+    contiguous: 34,
+};
 
-fn sixteen_k() -> Granule
-    ensures { result ≡ Granules.sixteen_k }
-{
-    Granule {
-        log: 14,
-        first: 1,
-        over: 40,
-        contiguous: 30,
-    }
-}
+const SIXTEEN_K: Granule = Granule {
+    log: 14,
+    first: 1,
+    over: 40,
+    contiguous: 30,
+};
 
-fn sixty_four_k() -> Granule
-    ensures { result ≡ Granules.sixty_four_k }
-{
-    Granule {
-        log: 16,
-        first: 1,
-        over: 42,
-        contiguous: 34,
-    }
-}
+const SIXTY_FOUR_K: Granule = Granule {
+    log: 16,
+    first: 1,
+    over: 42,
+    contiguous: 34,
+};
 
 // What a code of TG0 says; settings refuse 3, which is reserved.
+#[tactic(auto, using(bits::proofs::Tests::choices), unfolding(crate::specs::Granule::tg0_granule))]
 pub fn by_tg0(code: u64) -> Granule
     ensures { result ≡ Granules.tg0_granule code }
 {
     match code {
-        1 => sixty_four_k(),
-        2 => sixteen_k(),
-        _ => four_k(),
+        1 => SIXTY_FOUR_K,
+        2 => SIXTEEN_K,
+        _ => FOUR_K,
     }
 }
 
-// What a code of TG1 says; settings refuse 0, which is reserved.
+// What a code of TG1 says; settings refuse 0, which is reserved. TG0 and TG1 number the granules differently, so each has its own match.
+#[tactic(auto, using(bits::proofs::Tests::choices), unfolding(crate::specs::Granule::tg1_granule))]
 pub fn by_tg1(code: u64) -> Granule
     ensures { result ≡ Granules.tg1_granule code }
 {
     match code {
-        1 => sixteen_k(),
-        3 => sixty_four_k(),
-        _ => four_k(),
+        1 => SIXTEEN_K,
+        3 => SIXTY_FOUR_K,
+        _ => FOUR_K,
     }
 }
 
@@ -76,10 +67,10 @@ pub fn geometry(k: Granule, inputsize: u64, outputsize: u64) -> Geometry
 {
     Geometry {
         grainsize: k.log,
-        stride: crate::less(k.log, 3),
+        stride: k.log.saturating_sub(3),
         inputsize,
         outputsize,
-        block: crate::less(2, k.first),
+        block: 2_u64.saturating_sub(k.first),
         contiguous: k.contiguous,
     }
 }

@@ -12,6 +12,7 @@ use registers::vtcr::Vtcr;
 pub mod granule;
 
 // What IPS or PS says of the output size. 6 and 7 are no codes.
+#[tactic(auto, using(bits::proofs::Tests::choices), unfolding(crate::specs::Level::coded_size))]
 fn coded_size(code: u64) -> u64
     ensures { result ≡ Level.coded_size code }
 {
@@ -26,11 +27,11 @@ fn coded_size(code: u64) -> u64
 }
 
 // The output size: the smaller of PAMax and what IPS or PS says.
+#[tactic(auto, using(bits::proofs::Tests::choices), unfolding(crate::specs::Level::output_size))]
 pub fn output_size(pamax: u64, code: u64) -> u64
     ensures { result ≡ Level.output_size pamax code }
 {
-    let coded = coded_size(code);
-    if pamax <= coded { pamax } else { coded }
+    pamax.min(coded_size(code))
 }
 
 // Stage 2's start level: -1 for an SL0 of 3 and 4KB.
@@ -77,13 +78,6 @@ pub fn levels_below(start: i64) -> u64
     if start < 0 {
         4 + (-1 - start) as u64
     } else {
-        less(3, start as u64)
+        3_u64.saturating_sub(start as u64)
     }
-}
-
-// A difference, 0 where there is none.
-pub fn less(a: u64, b: u64) -> u64
-    ensures { result ≡ a - b }
-{
-    if b < a { a - b } else { 0 }
 }

@@ -1,12 +1,14 @@
 -- A list whose elements all fit and ascend, from a place on: what an element decides, and what it leaves to those after it.
 -- Assumes nothing.
-use mathlib.Core.Path.{◌≡◌, refl, sym, ◌∙◌}
+use mathlib.Core.Path.{◌≡◌, refl, sym, subst, ◌∙◌}
 use mathlib.Core.Bool.{Bool, true, false, true≢false, false≢true, ◌&&◌}
-use mathlib.Core.List.{List}
-use Prim.Native.Nat.{ℕ, ◌+◌, ◌≤◌, ◌<◌}
-use lib.ListN.{length}
-use Rattle.lists.specs.Lists.{zip, all, leads, ascends}
-use Rattle.lists.proofs.Pairs.{at, from, from_next, from_end}
+use mathlib.Core.List.{List, [], ◌∷◌}
+use Prim.Native.Nat.{ℕ, suc, ◌+◌, ◌<◌}
+use native.Mathlib.Omega.{arith}
+use lib.ListN.{length, get_or, drop, drop_of_length-le}
+use lib.Seq.{drop-cons}
+use Rattle.std.specs.Prelude.{Option, Some, None, MatchOption}
+use Rattle.lists.specs.Lists.{all, leads, ascends}
 
 false_left : (x y z w : Bool) → x ≡ false → ((x && y) && (z && w)) ≡ false
 false_left true y z w e = absurd (true≢false e)
@@ -23,45 +25,62 @@ both_true true y true w p q = refl
 both_true true y false w p q = absurd (false≢true q)
 both_true false y z w p q = absurd (false≢true p)
 
-abbrev ordered : (ℕ × ℕ → Bool) → (ℕ × ℕ → ℕ × ℕ → Bool) → List (ℕ × ℕ) → Bool
+-- the last element, if there is one, leads the first of those after it
+abbrev pub follows : (ℕ × ℕ → ℕ × ℕ → Bool) → Option (ℕ × ℕ) → List (ℕ × ℕ) → Bool
+follows b None l = true
+follows b (Some e) l = leads b e l
+
+abbrev pub ordered : (ℕ × ℕ → Bool) → (ℕ × ℕ → ℕ × ℕ → Bool) → List (ℕ × ℕ) → Bool
 ordered f b l = all f l && ascends b l
 
--- the lists have one length, and the pairs from i on decide
-pub record Deciding (f : ℕ × ℕ → Bool) (b : ℕ × ℕ → ℕ × ℕ → Bool) (xs ys : List ℕ) (i : ℕ) : Type 0 where
-  pub same : length ys ≡ length xs
-  pub rest : ordered f b (from xs ys i) ≡ ordered f b (zip xs ys)
+-- the last element fits, and those from i on decide
+pub record Deciding (f : ℕ × ℕ → Bool) (b : ℕ × ℕ → ℕ × ℕ → Bool) (l : List (ℕ × ℕ)) (last : Option (ℕ × ℕ)) (i : ℕ) : Type 0 where
+  pub fit : MatchOption last (Unit {0}) (λ e. f e ≡ true)
+  pub rest : (all f (drop i l) && (follows b last (drop i l) && ascends b (drop i l))) ≡ ordered f b l
 
-module _ {f : ℕ × ℕ → Bool} {b : ℕ × ℕ → ℕ × ℕ → Bool} {xs ys : List ℕ} {i : ℕ} (w : Deciding f b xs ys i) where
-  -- the pair at i, and those after it
-  abbrev here : ℕ × ℕ
-  here = at xs ys i
+module _ (f : ℕ × ℕ → Bool) (b : ℕ × ℕ → ℕ × ℕ → Bool) (l : List (ℕ × ℕ)) where
+  pub from_start : Deciding f b l None 0
+  from_start = record { fit = tt; rest = refl }
 
-  abbrev after : List (ℕ × ℕ)
-  after = from xs ys (i + 1)
+  module _ (last : Option (ℕ × ℕ)) (i : ℕ) (w : Deciding f b l last i) where
+    -- at the end
+    pub all_ordered : i ≡ length l → true ≡ ordered f b l
+    unfolding all ascends leads
+    all_ordered end = let e : drop i l ≡ [] = drop_of_length-le l {i = i} (omega arith) in by_last last (rw e at w.rest)
+      where
+        by_last : (last : Option (ℕ × ℕ)) → (true && (follows b last [] && true)) ≡ ordered f b l → true ≡ ordered f b l
+        by_last None h = h
+        by_last (Some d) h = h
 
-  step : i < length xs → ((f here && all f after) && (leads b here after && ascends b after)) ≡ ordered f b (zip xs ys)
-  unfolding all ascends
-  step less = rw (from_next xs ys w.same i less) at w.rest
+    module _ (e : ℕ × ℕ) (less : i < length l) (is : e ≡ get_or l i e) where
+      abbrev after : List (ℕ × ℕ)
+      after = drop (i + 1) l
 
-  pub unfit : i < length xs → f here ≡ false → false ≡ ordered f b (zip xs ys)
-  unfit less e = sym (false_left (f here) (all f after) (leads b here after) (ascends b after) e) ∙ step less
+      here : drop i l ≡ e ∷ after
+      here =
+          let n : i + 1 ≡ suc i = omega arith in
+          let p : drop i l ≡ get_or l i e ∷ drop (suc i) l = drop-cons l i e less in
+          cc
 
-  pub unled : i < length xs → leads b here after ≡ false → false ≡ ordered f b (zip xs ys)
-  unled less e = sym (false_right (f here) (all f after) (leads b here after) (ascends b after) e) ∙ step less
+      step : ((f e && all f after) && (follows b last (e ∷ after) && (leads b e after && ascends b after))) ≡ ordered f b l
+      unfolding all ascends
+      step = rw here at w.rest
 
-  pub goes_on : i < length xs → f here ≡ true → leads b here after ≡ true → Deciding f b xs ys (i + 1)
-  goes_on less p q = record { same = w.same; rest = sym (both_true (f here) (all f after) (leads b here after) (ascends b after) p q) ∙ step less }
+      pub unfit : f e ≡ false → false ≡ ordered f b l
+      unfit q = sym (false_left (f e) (all f after) (follows b last (e ∷ after)) (leads b e after && ascends b after) q) ∙ step
 
-  pub all_ordered : length xs ≤ i → true ≡ ordered f b (zip xs ys)
-  unfolding all ascends
-  all_ordered over = rw (from_end xs ys w.same i over) at w.rest
+      pub unled : (d : ℕ × ℕ) → last ≡ Some d → b d e ≡ false → false ≡ ordered f b l
+      unfolding leads
+      unled d was q = sym (false_right (f e) (all f after) (follows b last (e ∷ after)) (leads b e after && ascends b after) (rw was q)) ∙ step
 
-module _ (b : ℕ × ℕ → ℕ × ℕ → Bool) (xs ys : List ℕ) (same : length ys ≡ length xs) where
-  -- an element before the one at j, or before none
-  pub leads_next : (e : ℕ × ℕ) (j : ℕ) → j < length xs → b e (at xs ys j) ≡ leads b e (from xs ys j)
-  unfolding leads
-  leads_next e j less = rw (from_next xs ys same j less)
+      module _ (j : ℕ) (next : j ≡ i + 1) (fits : f e ≡ true) where
+        -- an element that fits, and that the last leads
+        goes : follows b last (e ∷ after) ≡ true → Deciding f b l (Some e) j
+        goes q = subst (Deciding f b l (Some e)) (sym next) (record { fit = fits; rest = sym (both_true (f e) (all f after) (follows b last (e ∷ after)) (leads b e after && ascends b after) fits q) ∙ step })
 
-  pub leads_none : (e : ℕ × ℕ) (j : ℕ) → length xs ≤ j → true ≡ leads b e (from xs ys j)
-  unfolding leads
-  leads_none e j over = rw (from_end xs ys same j over)
+        pub goes_first : last ≡ None → Deciding f b l (Some e) j
+        goes_first was = goes (rw was)
+
+        pub goes_on : (d : ℕ × ℕ) → last ≡ Some d → b d e ≡ true → Deciding f b l (Some e) j
+        unfolding leads
+        goes_on d was q = goes (rw was q)

@@ -1,48 +1,49 @@
--- A search from a place on: it is found at an element, or among those after it.
+-- A search of a list is whether some element passes a test.
 -- Assumes nothing.
-use mathlib.Core.Path.{◌≡◌, refl, sym, ◌∙◌}
+use mathlib.Core.Path.{◌≡◌, refl, ap}
 use mathlib.Core.Bool.{Bool, true, false, ◌&&◌, ◌||◌}
 use mathlib.Core.List.{List, [], ◌∷◌}
-use Prim.Native.Nat.{ℕ, ◌+◌, ◌≤◌, ◌<◌}
+use Prim.Native.Nat.{ℕ, suc, ◌+◌, ◌≤◌, ◌<◌}
+use native.Mathlib.Omega.{arith}
+use lib.ListN.{length, get_or, drop, drop_of_length-le}
+use lib.Seq.{drop-cons}
 use lib.Dec.{ltb, leb, eqb}
-use lib.ListN.{length}
-use Rattle.lists.specs.Lists.{zip}
+use Rattle.std.specs.List.{list_any}
 use Rattle.lists.specs.Search.{granted, touches, is_listed}
-use Rattle.lists.proofs.Pairs.{at, from, from_next, from_end}
 
--- a search of a list, by a test of one element
-pub record Scan : Type 0 where
-  pub search : List (ℕ × ℕ) → Bool
-  pub test : ℕ × ℕ → Bool
-  pub nowhere : search [] ≡ false
-  pub first : (e : ℕ × ℕ) (l : List (ℕ × ℕ)) → search (e ∷ l) ≡ (test e || search l)
-
-unfoldable pub granted_scan : (a n : ℕ) → Scan
+pub granted_any : (l : List (ℕ × ℕ)) (a n : ℕ) → list_any (λ e. leb e.0 a && leb (a + n) (e.0 + e.1)) l ≡ granted l a n
 unfolding granted
-granted_scan a n = record { search = λ l. granted l a n; test = λ e. leb e.0 a && leb (a + n) (e.0 + e.1); nowhere = refl; first = λ e l. refl }
+granted_any [] a n = refl
+granted_any (e ∷ l) a n = ap (λ b. (leb e.0 a && leb (a + n) (e.0 + e.1)) || b) (granted_any l a n)
 
-unfoldable pub touches_scan : (a n : ℕ) → Scan
+pub touches_any : (l : List (ℕ × ℕ)) (a n : ℕ) → list_any (λ e. ltb a (e.0 + e.1) && ltb e.0 (a + n)) l ≡ touches l a n
 unfolding touches
-touches_scan a n = record { search = λ l. touches l a n; test = λ e. ltb a (e.0 + e.1) && ltb e.0 (a + n); nowhere = refl; first = λ e l. refl }
+touches_any [] a n = refl
+touches_any (e ∷ l) a n = ap (λ b. (ltb a (e.0 + e.1) && ltb e.0 (a + n)) || b) (touches_any l a n)
 
-unfoldable pub listed_scan : (table level : ℕ) → Scan
+pub listed_any : (l : List (ℕ × ℕ)) (table level : ℕ) → list_any (λ e. eqb e.0 table && eqb e.1 level) l ≡ is_listed l table level
 unfolding is_listed
-listed_scan table level = record { search = λ l. is_listed l table level; test = λ e. eqb e.0 table && eqb e.1 level; nowhere = refl; first = λ e l. refl }
+listed_any [] table level = refl
+listed_any (e ∷ l) table level = ap (λ b. (eqb e.0 table && eqb e.1 level) || b) (listed_any l table level)
 
--- the lists have one length, and the pairs from i on decide
-pub record Searching (q : Scan) (xs ys : List ℕ) (i : ℕ) : Type 0 where
-  pub same : length ys ≡ length xs
-  pub rest : q.search (from xs ys i) ≡ q.search (zip xs ys)
+-- those from i on decide whether some element passes
+pub record Searching (test : ℕ × ℕ → Bool) (l : List (ℕ × ℕ)) (i : ℕ) : Type 0 where
+  pub rest : list_any test (drop i l) ≡ list_any test l
 
-module _ {q : Scan} {xs ys : List ℕ} {i : ℕ} (w : Searching q xs ys i) where
-  step : i < length xs → (q.test (at xs ys i) || q.search (from xs ys (i + 1))) ≡ q.search (zip xs ys)
-  step less = sym (rw (from_next xs ys w.same i less) (q.first _ _)) ∙ w.rest
+module _ (test : ℕ × ℕ → Bool) (l : List (ℕ × ℕ)) (i : ℕ) (w : Searching test l i) where
+  pub search_over : length l ≤ i → false ≡ list_any test l
+  search_over over = let e : drop i l ≡ [] = drop_of_length-le l {i = i} over in rw e at w.rest
 
-  pub search_next : i < length xs → q.test (at xs ys i) ≡ false → Searching q xs ys (i + 1)
-  search_next less e = record { same = w.same; rest = rw e at (step less) }
+  module _ (e : ℕ × ℕ) (less : i < length l) (is : e ≡ get_or l i e) where
+    step : (test e || list_any test (drop (i + 1) l)) ≡ list_any test l
+    step =
+        let n : i + 1 ≡ suc i = omega arith in
+        let p : drop i l ≡ get_or l i e ∷ drop (suc i) l = drop-cons l i e less in
+        let here : drop i l ≡ e ∷ drop (i + 1) l = cc in
+        rw here at w.rest
 
-  pub search_found : i < length xs → q.test (at xs ys i) ≡ true → true ≡ q.search (zip xs ys)
-  search_found less e = rw e at (step less)
+    pub search_next : false ≡ test e → Searching test l (i + 1)
+    search_next none = record { rest = rw (← none) at step }
 
-  pub search_over : length xs ≤ i → false ≡ q.search (zip xs ys)
-  search_over over = sym (rw (from_end xs ys w.same i over) q.nowhere) ∙ w.rest
+    pub search_found : true ≡ test e → true ≡ list_any test l
+    search_found some = rw (← some) at step

@@ -1,10 +1,14 @@
 // The audit's lists: grants (address, byte count) and tables (address, level), each as two lists of words (01, The audit).
 #![tactic(auto)]
 
-ghost use Rattle.std.specs.Prelude.{◌≡◌, true, ◌&&◌, ◌+◌, ◌^◌, ◌≤◌, ◌<◌, leb, length, get_or, drop};
-ghost use Rattle.lists.specs.Lists as Lists;
+ghost use Rattle.std.specs.Prelude.{◌≡◌, true, false, ◌+◌, ◌^◌, ◌<◌, leb, MatchOption};
+ghost use Rattle.lists.specs.Lists as Formed;
 
+mod order;
 pub mod search;
+
+use order::Rule;
+use search::{Grants, Tables};
 
 // The grants and the tables that an audit may have.
 pub const MOST_GRANTS: usize = 256;
@@ -13,13 +17,13 @@ pub const MOST_TABLES: usize = 1024;
 
 fn is_multiple(n: u64, size: u64) -> bool
     requires { 0 < size }
-    ensures { result ≡ Lists.is_multiple n size }
+    ensures { result ≡ Formed.is_multiple n size }
 {
     n % size == 0
 }
 
 fn whole_frames(n: u64) -> bool
-    ensures { result ≡ Lists.whole_frames n }
+    ensures { result ≡ Formed.whole_frames n }
 {
     is_multiple(n, 4096)
 }
@@ -36,119 +40,76 @@ fn ends_low(address: u64, n: u64) -> bool
     }
 }
 
-fn grant_fits(address: u64, count: u64) -> bool
-    ensures { result ≡ Lists.grant_fits (address, count) }
-{
-    whole_frames(address) & whole_frames(count) & (4096 <= count) & ends_low(address, count)
-}
+// Grants are whole frames below 2^48, with a gap between one and the next.
+#[derive(Drop)]
+pub(crate) struct GrantRule;
 
-// A table of some bytes, at multiples of which it lies.
-fn table_fits(size: u64, address: u64, level: u64) -> bool
-    requires { 0 < size }
-    ensures { result ≡ Lists.table_fits size (address, level) }
-{
-    is_multiple(address, size) & ends_low(address, size) & (1 <= level) & (level <= 3)
-}
+impl Rule for GrantRule {
+    const MOST: usize = MOST_GRANTS;
 
-// A gap lies between a grant and the next.
-fn grant_leads(grants: &[u64], counts: &[u64], i: usize) -> bool
-    requires { (i < length grants.now) × (length counts.now ≡ length grants.now) × (get_or grants.now i 0 + get_or counts.now i 0 ≤ 2 ^ 48) }
-    ensures { result ≡ Lists.leads Lists.grant_before (get_or grants.now i 0, get_or counts.now i 0) (Lists.zip (drop (i + 1) grants.now) (drop (i + 1) counts.now)) }
-{
-    let next = i + 1;
-    if next < grants.len() {
-        grants[i] + counts[i] < grants[next]
-    } else {
-        true
+    ghost MOST = { Formed.most_grants };
+
+    ghost fitting = { λ rule. Formed.grant_fits };
+
+    ghost leading = { Formed.grant_before };
+
+    fn fits(&self, (address, count): (u64, u64)) -> bool {
+        whole_frames(address) & whole_frames(count) & (4096 <= count) & ends_low(address, count)
+    }
+
+    fn leads(&self, (address, count): (u64, u64), next: (u64, u64)) -> bool {
+        address + count < next.0
     }
 }
 
-// Tables ascend by address, then level.
-fn table_leads(tables: &[u64], levels: &[u64], i: usize) -> bool
-    requires { (i < length tables.now) × (length levels.now ≡ length tables.now) }
-    ensures { result ≡ Lists.leads Lists.table_before (get_or tables.now i 0, get_or levels.now i 0) (Lists.zip (drop (i + 1) tables.now) (drop (i + 1) levels.now)) }
-{
-    let next = i + 1;
-    if next < tables.len() {
-        (tables[i] < tables[next]) | (tables[i] == tables[next]) & (levels[i] < levels[next])
-    } else {
-        true
+// Tables of some bytes each lie at multiples of them, at level 1 to 3, and ascend by address, then level.
+#[derive(Drop)]
+pub(crate) struct TableRule {
+    pub(crate) size: u64,
+    ghost some: { 0 < size },
+}
+
+impl Rule for TableRule {
+    const MOST: usize = MOST_TABLES;
+
+    ghost MOST = { Formed.most_tables };
+
+    ghost fitting = { λ rule. Formed.table_fits rule.size };
+
+    ghost leading = { Formed.table_before };
+
+    fn fits(&self, (address, level): (u64, u64)) -> bool {
+        let size = self.size;
+        is_multiple(address, size) & ends_low(address, size) & (1 <= level) & (level <= 3)
+    }
+
+    fn leads(&self, (address, level): (u64, u64), next: (u64, u64)) -> bool {
+        (address < next.0) | (address == next.0) & (level < next.1)
     }
 }
 
-fn grants_ascend(grants: &[u64], counts: &[u64]) -> bool
-    requires { length counts.now ≡ length grants.now }
-    ensures { result ≡ (Lists.all Lists.grant_fits (Lists.zip grants.now counts.now) && Lists.ascends Lists.grant_before (Lists.zip grants.now counts.now)) }
-{
-    let mut i = 0;
-    while i < grants.len() {
-        if !grant_fits(grants[i], counts[i]) {
-            return false;
-        }
-        if !grant_leads(grants, counts, i) {
-            return false;
-        }
-        i += 1;
-    }
-    true
+// The four lists of an audit, all well formed.
+#[derive(Clone, Copy)]
+pub struct Lists<'a> {
+    pub grants: Grants<'a>,
+    pub tables: Tables<'a>,
 }
 
-fn tables_ascend(size: u64, tables: &[u64], levels: &[u64]) -> bool
-    requires { (0 < size) × (length levels.now ≡ length tables.now) }
-    ensures { result ≡ (Lists.all (Lists.table_fits size) (Lists.zip tables.now levels.now) && Lists.ascends Lists.table_before (Lists.zip tables.now levels.now)) }
-{
-    let mut i = 0;
-    while i < tables.len() {
-        if !table_fits(size, tables[i], levels[i]) {
-            return false;
-        }
-        if !table_leads(tables, levels, i) {
-            return false;
-        }
-        i += 1;
-    }
-    true
-}
-
-fn grants_formed(grants: &[u64], counts: &[u64]) -> bool
-    ensures { result ≡ Lists.grants_formed grants.now counts.now }
-{
-    if grants.len() != counts.len() {
-        return false;
-    }
-    if MOST_GRANTS < grants.len() {
-        return false;
-    }
-    grants_ascend(grants, counts)
-}
-
-fn tables_formed(size: u64, tables: &[u64], levels: &[u64]) -> bool
-    requires { 0 < size }
-    ensures { result ≡ Lists.tables_formed size tables.now levels.now }
-{
-    if tables.len() != levels.len() {
-        return false;
-    }
-    if MOST_TABLES < tables.len() {
-        return false;
-    }
-    tables_ascend(size, tables, levels)
-}
-
-// The four lists are well formed, with tables of some bytes; otherwise the audit is refused by 15.
-pub fn well_formed(
-    size: u64,
-    grants: &[u64],
-    counts: &[u64],
-    tables: &[u64],
-    levels: &[u64],
-) -> bool
-    requires { 0 < size }
-    ensures { result ≡ Lists.well_formed size grants.now counts.now tables.now levels.now }
-{
-    if grants_formed(grants, counts) {
-        tables_formed(size, tables, levels)
-    } else {
-        false
+impl<'a> Lists<'a> {
+    // Lists with tables of some bytes each; nothing where they are not well formed: the audit is then refused by 15.
+    pub fn new(
+        size: u64,
+        grants: &'a [u64],
+        counts: &'a [u64],
+        tables: &'a [u64],
+        levels: &'a [u64],
+    ) -> Option<Self>
+        requires { 0 < size }
+        ensures { MatchOption result (Formed.well_formed size grants.now counts.now tables.now levels.now ≡ false) (λ l. (Formed.well_formed size grants.now counts.now tables.now levels.now ≡ true) × (l.grants.addresses.now ≡ grants.now) × (l.grants.counts.now ≡ counts.now) × (l.tables.addresses.now ≡ tables.now) × (l.tables.levels.now ≡ levels.now)) }
+    {
+        Some(Lists {
+            grants: Grants::new(grants, counts)?,
+            tables: Tables::new(size, tables, levels)?,
+        })
     }
 }

@@ -5,19 +5,19 @@ use mathlib.Core.Bool.{Bool, true, false}
 use Prim.Native.Nat.{ℕ}
 use Rattle.bits.specs.Bits.{pick}
 use Rattle.reads.specs.Program.{Outcome, reached, stopped, Program, done, stop, note, ask, All, nil, bind, run, reads}
-use Rattle.reads.specs.declared.Read.{Read}
+use Rattle.std.specs.Prelude.{Option}
 use Rattle.reads.proofs.Laws.{all_counted}
 
 abbrev pub OnOutcome : {E A : Type 0} → (A → Type 0) → (E → Type 0) → Outcome E A → Type 0
 OnOutcome R S (reached a) = R a
 OnOutcome R S (stopped e) = S e
 
-module _ {Q E : Type 0} (m : Q → Read) (P : Q → Type 0) (S : E → Type 0) where
+module _ {Q E : Type 0} (m : Q → Option ℕ) (P : Q → Type 0) (S : E → Type 0) where
   pub data Holds {A : Type 0} (R : A → Type 0) : Program Q E A → Type 0 where
     on_done : {a : A} → R a → Holds R (done a)
     on_stop : {e : E} → S e → Holds R (stop e)
     on_note : {n : ℕ} {p : Program Q E A} → Holds R p → Holds R (note n p)
-    on_ask : {q : Q} {k : Read → Program Q E A} → P q → Holds R (k (m q)) → Holds R (ask q k)
+    on_ask : {q : Q} {k : Option ℕ → Program Q E A} → P q → Holds R (k (m q)) → Holds R (ask q k)
 
   pub holds_reads : {A : Type 0} {R : A → Type 0} {p : Program Q E A} → Holds R p → All P (reads m p)
   unfolding reads

@@ -10,8 +10,7 @@ use lib.Seq.{sets, length-sets}
 use mathlib.Core.Bool.{Bool, true, false}
 use Rattle.bits.specs.Bits.{pick}
 use Rattle.reads.specs.Program.{Request, Outcome, reached, stopped, Program, done, stop, note, ask, bind, run, reads}
-use Rattle.reads.specs.declared.Read.{Read}
-use Rattle.reads.specs.declared.Read.TheVariants.{Absent, Word}
+use Rattle.std.specs.Prelude.{Option, Some, None}
 use Rattle.reads.proofs.Laws.{on, run_bind, reads_bind}
 use Rattle.reads.specs.Ran.{Ran}
 
@@ -21,7 +20,7 @@ sets_append l k (a ∷ u) v =
     let z : suc k + length u ≡ k + suc (length u) = omega arith in
     sets_append (set l k a) (suc k) u v ∙ rw z
 
-module _ {E : Type 0} (m : Request → Read) where
+module _ {E : Type 0} (m : Request → Option ℕ) where
   pub ran_done : {A : Type 0} (a : A) (log : List ℕ) (count : ℕ) → Ran {E = E} m (done a) log count (reached a) count log
   unfolding run reads
   ran_done a log count = record { outcome = refl; counted = omega arith; logged = refl }
@@ -34,13 +33,13 @@ module _ {E : Type 0} (m : Request → Read) where
   unfolding run reads
   ran_note r = record { outcome = r.outcome; counted = r.counted; logged = r.logged }
 
-  pub ran_absent : {A : Type 0} {q : Request} {k : Read → Program Request E A} {log log' : List ℕ} {count end : ℕ} {o : Outcome E A} →
-      m q ≡ Absent → Ran m (k Absent) log count o end log' → Ran m (ask q k) log count o end log'
+  pub ran_absent : {A : Type 0} {q : Request} {k : Option ℕ → Program Request E A} {log log' : List ℕ} {count end : ℕ} {o : Outcome E A} →
+      m q ≡ None → Ran m (k None) log count o end log' → Ran m (ask q k) log count o end log'
   unfolding run reads
   ran_absent e r = record { outcome = rw e r.outcome; counted = rw e r.counted; logged = rw e r.logged }
 
-  pub ran_word : {A : Type 0} {q : Request} {k : Read → Program Request E A} {x : ℕ} {log log' : List ℕ} {count end : ℕ} {o : Outcome E A} →
-      m q ≡ Word x → Ran m (k (Word x)) (set log count q.address) (count + 1) o end log' → Ran m (ask q k) log count o end log'
+  pub ran_word : {A : Type 0} {q : Request} {k : Option ℕ → Program Request E A} {x : ℕ} {log log' : List ℕ} {count end : ℕ} {o : Outcome E A} →
+      m q ≡ Some x → Ran m (k (Some x)) (set log count q.address) (count + 1) o end log' → Ran m (ask q k) log count o end log'
   unfolding run reads
   ran_word {count} e r =
       record { outcome = rw e r.outcome; counted = rw e (omega (arith, r.counted)); logged = rw e (rw add-one at r.logged) }
@@ -77,5 +76,5 @@ module _ {E : Type 0} (m : Request → Read) where
   ran_false p e r = rw e r
 
 -- a log keeps its length
-pub ran_length : {E A : Type 0} {m : Request → Read} {p : Program Request E A} {log log' : List ℕ} {count end : ℕ} {o : Outcome E A} → Ran m p log count o end log' → length log' ≡ length log
+pub ran_length : {E A : Type 0} {m : Request → Option ℕ} {p : Program Request E A} {log log' : List ℕ} {count end : ℕ} {o : Outcome E A} → Ran m p log count o end log' → length log' ≡ length log
 ran_length r = rw r.logged (simp length-sets)

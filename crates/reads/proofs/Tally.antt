@@ -8,8 +8,7 @@ use native.Mathlib.Omega.{arith}
 use lib.ListN.{length, length-append}
 use Rattle.bits.specs.Bits.{pick}
 use Rattle.reads.specs.Program.{Outcome, reached, stopped, Program, done, stop, ask, All, nil, counted, bind, run, reads, ends}
-use Rattle.reads.specs.declared.Read.{Read}
-use Rattle.reads.specs.declared.Read.TheVariants.{Absent, Word}
+use Rattle.std.specs.Prelude.{Option, Some, None}
 use Rattle.reads.proofs.Laws.{all_append, all_left, all_right, on, run_bind, reads_bind, ends_bind}
 
 -- each walk ended at level 3
@@ -25,7 +24,7 @@ pub record Tally {E A : Type 0} (c : ℕ) (o : Outcome E A) (n : ℕ) (l : List 
   pub most : n ≤ c
   pub exact : IfReached o ((n ≡ c → AllThree l) × (AllThree l → n ≡ c))
 
-pub record Tight {Q E A : Type 0} (m : Q → Read) (c : ℕ) (p : Program Q E A) : Type 0 where
+pub record Tight {Q E A : Type 0} (m : Q → Option ℕ) (c : ℕ) (p : Program Q E A) : Type 0 where
   pub tally : Tally c (run m p) (length (reads m p)) (ends m p)
 
 join : {E A B : Type 0} {a : A} {c d n n' : ℕ} {l l' : List ℕ} (o : Outcome E B) → Tally {E = E} c (reached a) n l → Tally d o n' l' → Tally (c + d) o (n + n') (l ++ l')
@@ -43,7 +42,7 @@ one_more : {E B : Type 0} {d n : ℕ} {l : List ℕ} (o : Outcome E B) → Tally
 one_more (reached b) h = record { most = omega (arith, h.most); exact = (λ e. h.exact.0 (omega arith), λ t. ap suc (h.exact.1 t)) }
 one_more (stopped e) h = record { most = omega (arith, h.most); exact = tt }
 
-module _ {Q E : Type 0} (m : Q → Read) where
+module _ {Q E : Type 0} (m : Q → Option ℕ) where
   pub tight_stop : {A : Type 0} (c : ℕ) (e : E) → Tight {A = A} m c (stop e)
   unfolding run reads ends
   tight_stop c e = record { tally = record { most = zero-le; exact = tt } }
@@ -74,10 +73,10 @@ module _ {Q E : Type 0} (m : Q → Read) where
   tight_choice f false c d hp hq = hq
 
   -- a read, and at most c more where it finds a word
-  pub tight_ask : {A : Type 0} (c : ℕ) (q : Q) (k : Read → Program Q E A) (e : E) → k Absent ≡ stop e → ((x : ℕ) → Tight m c (k (Word x))) → Tight m (suc c) (ask q k)
+  pub tight_ask : {A : Type 0} (c : ℕ) (q : Q) (k : Option ℕ → Program Q E A) (e : E) → k None ≡ stop e → ((x : ℕ) → Tight m c (k (Some x))) → Tight m (suc c) (ask q k)
   unfolding run reads ends
   tight_ask c q k e gap h = record { tally = by_read (m q) }
     where
-      by_read : (f : Read) → Tally (suc c) (run m (k f)) (length (counted f q (reads m (k f)))) (ends m (k f))
-      by_read Absent = rw gap (record { most = zero-le; exact = tt })
-      by_read (Word x) = one_more (run m (k (Word x))) (h x).tally
+      by_read : (f : Option ℕ) → Tally (suc c) (run m (k f)) (length (counted f q (reads m (k f)))) (ends m (k f))
+      by_read None = rw gap (record { most = zero-le; exact = tt })
+      by_read (Some x) = one_more (run m (k (Some x))) (h x).tally

@@ -2,3 +2,4 @@ pub mod Settings
 pub mod Roots
 pub mod Ready
 pub mod Narrowed
+pub mod Starts

@@ -12,8 +12,7 @@ use Rattle.reads.specs.Program.{bind}
 use Rattle.walk.specs.Walk.{walk_from}
 use Rattle.walk.specs.Checks.{give}
 use Rattle.walk.specs.declared.stop.Stage.TheVariants.{One}
-use Rattle.walk.specs.declared.table.Root.{Root}
-use Rattle.walk.specs.declared.table.Root.TheVariants.{Unusable}
+use Rattle.walk.specs.Root.{Root, unusable}
 use Rattle.walk.specs.declared.stage2.Stage2.{Stage2}
 use Rattle.stages.specs.Stage1.{place1, root1_at, check1, stage1_off, translate1}
 use Rattle.stages.specs.Stages.{finish, access}
@@ -41,7 +40,7 @@ module _ (inputsize : ℕ) (root : Root) (cd id ptw : Bool) (a : Access) where
   whole on = record { on = on; inputsize = inputsize; root = root; cd = cd; id = id; ptw = ptw }
 
   abbrev part : Bool → Stage2
-  part on = record { on = on; inputsize = inputsize; root = pick on root (Unusable Translation 0); cd = cd; id = id; ptw = ptw }
+  part on = record { on = on; inputsize = inputsize; root = pick on root (unusable Translation 0); cd = cd; id = id; ptw = ptw }
 
   place_same : (on : Bool) → place1 (part on) a ≡ place1 (whole on) a
   unfolding pick place1
@@ -63,10 +62,10 @@ second_same s r a =
 
 -- the root for an address of each VA range, if it lies in it
 abbrev upper_root : (tbi : Bool) → VaRange → ℕ → Root
-upper_root tbi u a = pick (ltb (counted tbi a) (floor tbi u.inputsize)) (Unusable Translation 0) u.root
+upper_root tbi u a = pick (ltb (counted tbi a) (floor tbi u.inputsize)) (unusable Translation 0) u.root
 
 abbrev lower_root : (tbi : Bool) → VaRange → ℕ → Root
-lower_root tbi l a = pick (leb (within l.inputsize) (counted tbi a)) (Unusable Translation 0) l.root
+lower_root tbi l a = pick (leb (within l.inputsize) (counted tbi a)) (unusable Translation 0) l.root
 
 -- bit 55 tells which of them counts
 root_by : (s : Stage1) (a : ℕ) → root_at s (range_at (bounds_of s) a) ≡ pick (bit a 55) (upper_root s.tbi1 s.upper a) (lower_root s.tbi0 s.lower a)
@@ -74,7 +73,7 @@ unfolding range_at bounds_of pick root_at
 root_by s a =
     by_tests (bit a 55) (ltb (counted s.tbi1 a) (floor s.tbi1 s.upper.inputsize)) (leb (within s.lower.inputsize) (counted s.tbi0 a))
   where
-    by_tests : (b x y : Bool) → root_at s (pick b (pick x Neither Upper) (pick y Neither Lower)) ≡ pick b (pick x (Unusable Translation 0) s.upper.root) (pick y (Unusable Translation 0) s.lower.root)
+    by_tests : (b x y : Bool) → root_at s (pick b (pick x Neither Upper) (pick y Neither Lower)) ≡ pick b (pick x (unusable Translation 0) s.upper.root) (pick y (unusable Translation 0) s.lower.root)
     by_tests true true y = refl
     by_tests true false y = refl
     by_tests false x true = refl

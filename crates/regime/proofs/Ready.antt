@@ -15,20 +15,12 @@ use Rattle.level.specs.Granule.{stride_of, geometry_of, Granular}
 use Rattle.level.specs.Level.{start1, size_check, levels_below}
 use Rattle.level.proofs.Granules.{tg0_granular}
 use Rattle.regime.specs.Roots.{granule2, start_level2, geometry2, table_of, range_of}
-use Rattle.registers.specs.declared.El1.{El1}
 use Rattle.registers.specs.declared.El2.{El2}
-use Rattle.settings.specs.Settings.{settings}
 use Rattle.regime.specs.declared.Half.{Half}
-use Rattle.regime.specs.Calls.{Sized, SoundHalf, range_by, with_starts, ranged1}
-use Rattle.regime.proofs.Settings.{pamax_small}
+use Rattle.regime.specs.Calls.{Sized, SoundHalf, range_by}
 use Rattle.regime.proofs.Roots.{start1_is, start2_most, not_before, start2_bits}
-use Rattle.walk.specs.Calls.{Small, Starts}
-use Rattle.walk.specs.declared.start.Start.{Start}
-use Rattle.walk.proofs.Ends.{starts_root}
-use Rattle.stages.specs.Calls.{Sound1, stage1_of}
-use Rattle.stages.specs.Ranges.{bounds_of, Narrow, limited, disabled}
-use Rattle.stages.specs.declared.stage1.VaRange.{VaRange}
-use Rattle.stages.specs.declared.stage1.Prepared1.{Prepared1}
+use Rattle.walk.specs.Calls.{Small}
+use Rattle.stages.specs.Ranges.{Narrow}
 use Rattle.descriptor.proofs.Masks.{upper_small}
 
 small_table : (k : Granule) (s output n register : ℕ) → Granular k → n ≤ 3 → k.log + stride_of k * n < 48 → s - (k.log + stride_of k * n) ≤ 17 → Small (table_of (geometry_of k s output) n register)
@@ -61,8 +53,8 @@ small1 k s output ttbr g sized =
 
 pub narrow1 : (g : Geometry) (epd : Bool) (ttbr : ℕ) → (epd ≡ false → Sized g.inputsize) → Narrow (range_of g epd ttbr)
 unfolding pick
-narrow1 g true ttbr h = disabled refl
-narrow1 g false ttbr h = limited (h refl).most
+narrow1 g true ttbr h = λ more. refl
+narrow1 g false ttbr h = λ more. absurd (omega (arith, (h refl).most, more))
 
 -- stage 2 from a start level that is not before its granule's first, with at most 4 index bits over the stride
 pub small2 : (r : El2) →
@@ -80,21 +72,3 @@ small2 r some few =
 
 pub range_narrow : (output : ℕ) (h : Half) → SoundHalf h → Narrow (range_by output h)
 range_narrow output h s = narrow1 _ _ _ s.size
-
-module _ (r : El2) (g : El1) (accepted : settings r g ≡ 0) (l u : VaRange) (low : Narrow l) (high : Narrow u)
-    (lower upper : Start) (from_low : Starts lower l.root) (from-high : Starts upper u.root) where
-  abbrev words : Prepared1
-  words = with_starts r g l.inputsize lower u.inputsize upper
-
-  pub words_are : stage1_of words ≡ ranged1 l u r g
-  words_are = rw (starts_root lower l.root from_low, starts_root upper u.root from-high)
-
-  pub words_sound : Sound1 words
-  unfolding bounds_of
-  words_sound =
-      record {
-        bounds = refl;
-        pamax = pamax_small r g accepted;
-        lower = λ on. rw (starts_root lower l.root from_low) (from_low, low);
-        upper = λ on. rw (starts_root upper u.root from-high) (from-high, high);
-      }

@@ -1,5 +1,6 @@
 -- Roots that registers give: how many levels they have, and that they are aligned.
 -- Assumes nothing.
+use Rattle.std.specs.Prelude.{Ok, Err}
 use mathlib.Core.Path.{◌≡◌, refl, sym, ap, ◌∙◌, subst}
 use mathlib.Core.Bool.{Bool, true, false, cond, true≢false}
 use Prim.Native.Nat.{ℕ, zero, suc, ◌+◌, ◌-◌, ◌*◌, ◌^◌, ◌≤◌, ◌<◌, suc-le-suc}
@@ -16,8 +17,7 @@ use Rattle.descriptor.specs.declared.entry.Geometry.{Geometry}
 use Rattle.descriptor.specs.declared.entry.FaultKind.{FaultKind}
 use Rattle.bits.proofs.Tests.{by_pick, pick_true}
 use Rattle.stages.specs.Stage1.{is_upper, in_range, va_range, root1_at}
-use Rattle.walk.specs.declared.table.Root.{Root}
-use Rattle.walk.specs.declared.table.Root.TheVariants.{Unusable, Usable}
+use Rattle.walk.specs.Root.{Root, unusable}
 use Rattle.stages.specs.declared.stage1.VaRange.{VaRange}
 use Rattle.stages.specs.declared.stage1.Stage1.{Stage1}
 use Rattle.stages.proofs.Accesses.{Aligned, upper_aligned}
@@ -107,38 +107,38 @@ start2_bits g m (suc (suc (suc (suc l)))) h e = absurd (omega arith)
 
 -- ---- roots, by what holds of them
 
-module _ (Q : Root → Type 0) (unusable : (k : FaultKind) (l : ℕ) → Q (Unusable k l)) where
-  by_root_of : (g : Geometry) (n register : ℕ) → Q (Usable (table_of g n register)) → Q (root_of g n register)
+module _ (Q : Root → Type 0) (on_fault : (k : FaultKind) (l : ℕ) → Q (unusable k l)) where
+  by_root_of : (g : Geometry) (n register : ℕ) → Q (Ok (table_of g n register)) → Q (root_of g n register)
   unfolding root_of
-  by_root_of g n register h = by_pick Q (beyond register g.outputsize) (Unusable _ _) _ (λ _. unusable _ _) (λ _. h)
+  by_root_of g n register h = by_pick Q (beyond register g.outputsize) (unusable _ _) _ (λ _. on_fault _ _) (λ _. h)
 
   -- a VA range of stage 1 that is not disabled
-  pub by_range : (g : Geometry) (epd : Bool) (ttbr : ℕ) → (epd ≡ false → Q (Usable (table_of g (levels_below (start1 g)) ttbr))) → Q (range_of g epd ttbr).root
-  by_range g epd ttbr h = by_pick Q epd (Unusable _ _) _ (λ _. unusable _ _) (λ e. by_root_of _ _ _ (h e))
+  pub by_range : (g : Geometry) (epd : Bool) (ttbr : ℕ) → (epd ≡ false → Q (Ok (table_of g (levels_below (start1 g)) ttbr))) → Q (range_of g epd ttbr).root
+  by_range g epd ttbr h = by_pick Q epd (unusable _ _) _ (λ _. on_fault _ _) (λ e. by_root_of _ _ _ (h e))
 
   -- stage 1's root for an address, by its VA range
   pub by_root1_at : (s : Stage1) (a : ℕ) → (is_upper s a ≡ true → Q s.upper.root) → (is_upper s a ≡ false → Q s.lower.root) → Q (root1_at s a)
   by_root1_at s a upper lower =
-      by_pick Q (in_range s a) (va_range s a).root (Unusable _ _) (λ _. by_pick (λ (h : VaRange). Q h.root) (is_upper s a) s.upper s.lower upper lower) (λ _. unusable _ _)
+      by_pick Q (in_range s a) (va_range s a).root (unusable _ _) (λ _. by_pick (λ (h : VaRange). Q h.root) (is_upper s a) s.upper s.lower upper lower) (λ _. on_fault _ _)
 
   -- stage 2's root, from a start level that is not before its granule's first, with few index bits
   pub by_root2 : (r : El2) →
       (let k = granule2 r in let g = geometry2 r in let start = start_level2 r in
-      (l : ℕ) → start ≡ pos l → k.first ≤ l → lt_z (pos (g.stride + 4)) (size_check g start) ≡ false → Q (Usable (table_of g (levels_below start) r.vttbr))) → Q (root2 r)
+      (l : ℕ) → start ≡ pos l → k.first ≤ l → lt_z (pos (g.stride + 4)) (size_check g start) ≡ false → Q (Ok (table_of g (levels_below start) r.vttbr))) → Q (root2 r)
   unfolding root2
   by_root2 r h =
-      by_pick Q _ (Unusable _ _) _ (λ _. unusable _ _)
-      (λ e. by_pick Q _ (Unusable _ _) _ (λ _. unusable _ _)
-      (λ _. by_pick Q _ (Unusable _ _) _ (λ _. unusable _ _)
-      (λ _. by_pick Q _ (Unusable _ _) _ (λ _. unusable _ _)
+      by_pick Q _ (unusable _ _) _ (λ _. on_fault _ _)
+      (λ e. by_pick Q _ (unusable _ _) _ (λ _. on_fault _ _)
+      (λ _. by_pick Q _ (unusable _ _) _ (λ _. on_fault _ _)
+      (λ _. by_pick Q _ (unusable _ _) _ (λ _. on_fault _ _)
       (λ small. by_root_of _ _ _ (let p = not_before (start_level2 r) (granule2 r).first e in h p.0 p.1 p.2 small)))))
 
 -- ---- stage 2's geometry
 
 -- of a usable root: tables of 4,096 bytes or more, and at most four levels
 abbrev pub Sane : Root → Type 0
-Sane (Unusable kind level) = Unit {0}
-Sane (Usable t) = (12 ≤ t.geometry.grainsize) × (t.levels ≤ 4)
+Sane (Err u) = Unit {0}
+Sane (Ok t) = (12 ≤ t.geometry.grainsize) × (t.levels ≤ 4)
 
 few_below : (z : ℤ) (l : ℕ) → z ≡ pos l → levels_below z ≤ 3
 unfolding levels_below

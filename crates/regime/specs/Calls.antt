@@ -3,13 +3,10 @@
 use Rattle.std.specs.Prelude.{◌≡◌, Bool, true, false, ℕ, ◌≤◌, ◌<◌}
 use Rattle.bits.specs.Bits.{pick}
 use Rattle.descriptor.specs.declared.entry.FaultKind.TheVariants.{Translation}
-use Rattle.walk.specs.declared.table.Root.TheVariants.{Unusable}
-use Rattle.walk.specs.declared.start.Start.{Start}
+use Rattle.walk.specs.Root.{unusable}
 use Rattle.walk.specs.declared.stage2.Stage2.{Stage2}
-use Rattle.stages.specs.Ranges.{bounds}
 use Rattle.stages.specs.declared.stage1.VaRange.{VaRange}
 use Rattle.stages.specs.declared.stage1.Stage1.{Stage1}
-use Rattle.stages.specs.declared.stage1.Prepared1.{Prepared1}
 use Rattle.level.specs.Granule.{tg0_granule, tg1_granule, geometry_of, Granular}
 use Rattle.level.specs.Level.{input_size, output_size}
 use Rattle.registers.specs.Tcr
@@ -56,24 +53,6 @@ range_by output h = range_of (geometry_of h.granule (input_size h.tnsz) output) 
 abbrev pub output1 : El2 → El1 → ℕ
 output1 r g = output_size r.pamax (Tcr.ips g.tcr)
 
--- stage 1 in words, by the input sizes and the starts of its VA ranges
-abbrev pub with_starts : El2 → El1 → (size0 : ℕ) (lower : Start) (size1 : ℕ) (upper : Start) → Prepared1
-with_starts r g size0 lower size1 upper =
-    record {
-      on = stage1_on r g;
-      pamax = r.pamax;
-      dc = Hcr.dc r.hcr;
-      bounds = bounds (Tcr.tbi0 g.tcr) (Tcr.tbi1 g.tcr) size0 size1 r.pamax;
-      size0 = size0;
-      size1 = size1;
-      lower = lower;
-      upper = upper;
-      mair = g.mair;
-      c = Sctlr.c g.sctlr;
-      i = Sctlr.i g.sctlr;
-      wxn = Sctlr.wxn g.sctlr;
-    }
-
 -- stage 1 with other VA ranges
 abbrev pub ranged1 : (lower upper : VaRange) → El2 → El1 → Stage1
 ranged1 lower upper r g =
@@ -109,7 +88,7 @@ narrowed2 r =
     record {
       on = stage2_on r;
       inputsize = input_size (Vtcr.t0sz r.vtcr);
-      root = pick (stage2_on r) (root2 r) (Unusable Translation 0);
+      root = pick (stage2_on r) (root2 r) (unusable Translation 0);
       cd = Hcr.cd r.hcr;
       id = Hcr.id r.hcr;
       ptw = Hcr.ptw r.hcr;

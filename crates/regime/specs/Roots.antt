@@ -1,14 +1,13 @@
 -- From registers to the two stages: roots, and what else each stage goes by (01, Walk).
 -- Assumes nothing.
-use Rattle.std.specs.Prelude.{Bool, ◌&&◌, ℕ, suc, ◌+◌, ◌-◌, ◌^◌, leb, ℤ, pos}
+use Rattle.std.specs.Prelude.{Bool, ◌&&◌, ℕ, suc, ◌+◌, ◌-◌, ◌^◌, leb, ℤ, pos, Ok}
 use Rattle.std.specs.Int.Signed.{lt_z}
 use Rattle.bits.specs.Bits.{pick, upper, beyond}
 use Rattle.descriptor.specs.Entry.{shift}
 use Rattle.descriptor.specs.declared.entry.Geometry.{Geometry}
 use Rattle.descriptor.specs.declared.entry.FaultKind.TheVariants.{Translation, AddressSize}
 use Rattle.walk.specs.declared.table.Table.{Table}
-use Rattle.walk.specs.declared.table.Root.{Root}
-use Rattle.walk.specs.declared.table.Root.TheVariants.{Unusable, Usable}
+use Rattle.walk.specs.Root.{Root, unusable}
 use Rattle.stages.specs.declared.stage1.VaRange.{VaRange}
 use Rattle.stages.specs.declared.stage1.Stage1.{Stage1}
 use Rattle.walk.specs.declared.stage2.Stage2.{Stage2}
@@ -60,11 +59,11 @@ table_of g n register =
 
 -- no bit of a base register may lie beyond the output size (01, Walk, output size)
 unfoldable pub root_of : Geometry → (n register : ℕ) → Root
-root_of g n register = pick (beyond register g.outputsize) (Unusable AddressSize 0) (Usable (table_of g n register))
+root_of g n register = pick (beyond register g.outputsize) (unusable AddressSize 0) (Ok (table_of g n register))
 
 -- a VA range of stage 1, by its geometry, EPD and TTBR (01, Walk, input size)
 abbrev pub range_of : Geometry → (epd : Bool) (ttbr : ℕ) → VaRange
-range_of g epd ttbr = record { inputsize = g.inputsize; root = pick epd (Unusable Translation 0) (root_of g (levels_below (start1 g)) ttbr) }
+range_of g epd ttbr = record { inputsize = g.inputsize; root = pick epd (unusable Translation 0) (root_of g (levels_below (start1 g)) ttbr) }
 
 -- stage 2 (01, Walk, start level; 02, §3) starts at no level before its granule's first, there only where PAMax is over a limit, and with 1
 -- to the stride and 4 index bits
@@ -73,10 +72,10 @@ root2 r =
     let k = granule2 r in
     let g = geometry2 r in
     let start = start_level2 r in
-    pick (lt_z start (pos k.first)) (Unusable Translation 0)
-    (pick (lt_z start (pos (k.first + 1)) && leb r.pamax k.over) (Unusable Translation 0)
-    (pick (lt_z (size_check g start) (pos 1)) (Unusable Translation 0)
-    (pick (lt_z (pos (g.stride + 4)) (size_check g start)) (Unusable Translation 0)
+    pick (lt_z start (pos k.first)) (unusable Translation 0)
+    (pick (lt_z start (pos (k.first + 1)) && leb r.pamax k.over) (unusable Translation 0)
+    (pick (lt_z (size_check g start) (pos 1)) (unusable Translation 0)
+    (pick (lt_z (pos (g.stride + 4)) (size_check g start)) (unusable Translation 0)
     (root_of g (levels_below start) r.vttbr))))
 
 -- ---- the stages

@@ -3,8 +3,11 @@
 
 ghost use Rattle.std.specs.Prelude.{◌≡◌, ◌+◌, ◌^◌, ◌≤◌, ◌<◌, ◌&&◌, ◌||◌, leb, pos};
 ghost use Rattle.std.specs.Int.Signed.{lt_z};
-ghost use Rattle.walk.specs.Calls.{Small, Starts, Sound2, stage2_of};
-ghost use Rattle.stages.specs.Calls.{Sound1, stage1_of, memory_of};
+ghost use Rattle.walk.specs.Calls.{Small, Starts};
+ghost use Rattle.walk.specs.Prepared.{stage2_of};
+ghost use Rattle.stages.specs.Calls.{memory_of};
+ghost use Rattle.stages.specs.Prepared.{range_of, stage1_of};
+ghost use Rattle.stages.specs.Ready.{Ready};
 ghost use Rattle.settings.specs.Settings.{settings};
 ghost use Rattle.bits.specs.Bits.{bit};
 ghost use Rattle.level.specs.Granule.{stride_of, Granular};
@@ -16,12 +19,11 @@ use descriptor::turn;
 use level::granule;
 use level::granule::Granule;
 use registers::{El1, El2};
-use stages::both::Memory;
+use stages::both::AttributeControls;
+use stages::prepared::{Prepared1, StartedRange};
 use stages::range;
-use stages::stage1::Prepared1;
 use walk::end::Ending;
-use walk::stage2::Prepared2;
-use walk::start;
+use walk::prepared::Prepared2;
 use walk::start::Start;
 use walk::table::Table;
 
@@ -30,7 +32,9 @@ fn table_of(geometry: Geometry, n: u64, register: u64) -> Table
     requires { (geometry.inputsize ≤ 64) × (n ≤ 8) × Small (Roots.table_of geometry n register) }
     ensures { result ≡ Roots.table_of geometry n register }
 {
-    let width = level::less(geometry.inputsize, geometry.grainsize + geometry.stride * n);
+    let width = geometry
+        .inputsize
+        .saturating_sub(geometry.grainsize + geometry.stride * n);
     Table {
         geometry,
         levels: n + 1,
@@ -45,9 +49,9 @@ fn start_from(geometry: Geometry, n: u64, register: u64) -> Start
     ensures { Starts result (Roots.root_of geometry n register) }
 {
     if register & turn::above(geometry.outputsize) != 0 {
-        return start::nowhere(Ending::AddressSize, 0);
+        return Start::nowhere(Ending::AddressSize, 0);
     }
-    start::start_at(table_of(geometry, n, register))
+    Start::at(table_of(geometry, n, register))
 }
 
 // What registers say of one VA range of stage 1: its granule, size field, EPD and TTBR.
@@ -60,74 +64,89 @@ struct Half {
 }
 
 // With stage 1 off each range is left out as if it were disabled: no walk starts there.
+#[tactic(auto, using(bits::proofs::Tests::choices))]
 fn left_out(on: bool, epd: bool) -> bool
     ensures { result ≡ Calls.left_out on epd }
 {
-    if on { epd } else { true }
+    !on || epd
 }
 
-// What TTBR0 translates.
-fn lower_half(g: El1, on: bool) -> Half
-    ensures { result ≡ Calls.lower_half on g }
-{
-    let tcr = g.tcr;
-    Half {
-        granule: granule::by_tg0(tcr.tg0()),
-        tnsz: tcr.t0sz(),
-        epd: left_out(on, tcr.epd0()),
-        ttbr: g.ttbr0,
+impl Half {
+    // What TTBR0 translates.
+    fn lower(g: El1, on: bool) -> Self
+        ensures { result ≡ Calls.lower_half on g }
+    {
+        Half {
+            granule: granule::by_tg0(g.tcr.tg0()),
+            tnsz: g.tcr.t0sz(),
+            epd: left_out(on, g.tcr.epd0()),
+            ttbr: g.ttbr0,
+        }
     }
-}
 
-// What TTBR1 translates.
-fn upper_half(g: El1, on: bool) -> Half
-    ensures { result ≡ Calls.upper_half on g }
-{
-    let tcr = g.tcr;
-    Half {
-        granule: granule::by_tg1(tcr.tg1()),
-        tnsz: tcr.t1sz(),
-        epd: left_out(on, tcr.epd1()),
-        ttbr: g.ttbr1,
+    // What TTBR1 translates. It reads other fields than the lower half throughout, so the two share no more than `left_out`.
+    fn upper(g: El1, on: bool) -> Self
+        ensures { result ≡ Calls.upper_half on g }
+    {
+        Half {
+            granule: granule::by_tg1(g.tcr.tg1()),
+            tnsz: g.tcr.t1sz(),
+            epd: left_out(on, g.tcr.epd1()),
+            ttbr: g.ttbr1,
+        }
     }
-}
 
-// What translates an address: bit 55 tells.
-fn half_at(g: El1, on: bool, address: u64) -> Half
-    ensures { result ≡ Calls.half_of (bit address 55) on g }
-{
-    if bits::bit(address, 55) {
-        upper_half(g, on)
-    } else {
-        lower_half(g, on)
+    // What translates an address: bit 55 tells.
+    #[tactic(auto, using(bits::proofs::Tests::choices))]
+    fn of(g: El1, on: bool, address: u64) -> Self
+        ensures { result ≡ Calls.half_of (bit address 55) on g }
+    {
+        if bits::bit(address, 55) {
+            Half::upper(g, on)
+        } else {
+            Half::lower(g, on)
+        }
     }
-}
 
-// The start of a VA range.
-fn start1(output: u64, h: Half) -> Start
-    requires { Calls.SoundHalf h }
-    ensures { Starts result (Calls.range_by output h).root }
-{
-    let k = h.granule;
-    let tnsz = h.tnsz;
-    if h.epd {
-        return start::nowhere(Ending::Translation, 0);
+    // The start of the range, by its output size.
+    fn start(self, output: u64) -> Start
+        requires { Calls.SoundHalf self }
+        ensures { Starts result (Calls.range_by output self).root }
+    {
+        if self.epd {
+            return Start::nowhere(Ending::Translation, 0);
+        }
+        let n = level::below_start1(self.granule, self.tnsz);
+        start_from(
+            granule::geometry(self.granule, 64 - self.tnsz, output),
+            n,
+            self.ttbr,
+        )
     }
-    let n = level::below_start1(k, tnsz);
-    start_from(granule::geometry(k, 64 - tnsz, output), n, h.ttbr)
+
+    // The range for walks.
+    fn started(self, output: u64) -> StartedRange
+        requires { Calls.SoundHalf self }
+        ensures { (range_of result ≡ Calls.range_by output self) × Ready result }
+    {
+        StartedRange {
+            inputsize: 64 - self.tnsz,
+            start: self.start(output),
+        }
+    }
 }
 
 // Stage 1's output size.
 fn output1(r: El2, g: El1) -> u64
     ensures { result ≡ Calls.output1 r g }
 {
-    let tcr = g.tcr;
-    level::output_size(r.pamax, tcr.ips())
+    level::output_size(r.pamax, g.tcr.ips())
 }
 
-// Stage 1 for walks, by the input sizes and the starts of its VA ranges.
-fn with_starts(r: El2, g: El1, size0: u64, lower: Start, size1: u64, upper: Start) -> Prepared1
-    ensures { result ≡ Calls.with_starts r g size0 lower size1 upper }
+// Stage 1 for walks, by its VA ranges.
+fn with_ranges(r: El2, g: El1, lower: StartedRange, upper: StartedRange) -> Prepared1
+    requires { (r.pamax < 64) × Ready lower × Ready upper }
+    ensures { stage1_of result ≡ Calls.ranged1 (range_of lower) (range_of upper) r g }
 {
     let hcr = r.hcr;
     let tcr = g.tcr;
@@ -136,9 +155,13 @@ fn with_starts(r: El2, g: El1, size0: u64, lower: Start, size1: u64, upper: Star
         on: settings::stage1_on(r, g),
         pamax: r.pamax,
         dc: hcr.dc(),
-        bounds: range::bounds_of(tcr.tbi0(), tcr.tbi1(), size0, size1, r.pamax),
-        size0,
-        size1,
+        bounds: range::bounds_of(
+            tcr.tbi0(),
+            tcr.tbi1(),
+            lower.inputsize,
+            upper.inputsize,
+            r.pamax,
+        ),
         lower,
         upper,
         mair: g.mair,
@@ -151,39 +174,30 @@ fn with_starts(r: El2, g: El1, size0: u64, lower: Start, size1: u64, upper: Star
 // Stage 1 for walks of any address. With stage 1 off there is no walk.
 pub fn prepared1(r: El2, g: El1) -> Prepared1
     requires { settings r g ≡ 0 }
-    ensures { (stage1_of result ≡ Calls.narrowed1 r g) × Sound1 result }
+    ensures { stage1_of result ≡ Calls.narrowed1 r g }
 {
     let on = settings::stage1_on(r, g);
     let output = output1(r, g);
-    let low = lower_half(g, on);
-    let high = upper_half(g, on);
-    with_starts(
-        r,
-        g,
-        64 - low.tnsz,
-        start1(output, low),
-        64 - high.tnsz,
-        start1(output, high),
-    )
+    let lower = Half::lower(g, on).started(output);
+    let upper = Half::upper(g, on).started(output);
+    with_ranges(r, g, lower, upper)
 }
 
 // The same for one address alone: its VA range stands in the place of both, and the other is not worked out.
 pub fn prepared1_at(r: El2, g: El1, address: u64) -> Prepared1
     requires { settings r g ≡ 0 }
-    ensures { (stage1_of result ≡ Calls.sided1 (bit address 55) r g) × Sound1 result × (address < 2 ^ 64) }
+    ensures { (stage1_of result ≡ Calls.sided1 (bit address 55) r g) × (address < 2 ^ 64) }
 {
-    let half = half_at(g, settings::stage1_on(r, g), address);
-    let size = 64 - half.tnsz;
-    let start = start1(output1(r, g), half);
-    with_starts(r, g, size, start, size, start)
+    let half = Half::of(g, settings::stage1_on(r, g), address);
+    let range = half.started(output1(r, g));
+    with_ranges(r, g, range, range)
 }
 
 // Stage 2's granule.
 fn granule2(r: El2) -> Granule
     ensures { (result ≡ Roots.granule2 r) × Granular result }
 {
-    let vtcr = r.vtcr;
-    granule::by_tg0(vtcr.tg0())
+    granule::by_tg0(r.vtcr.tg0())
 }
 
 // The bytes of a table below stage 2's root.
@@ -213,8 +227,7 @@ fn startless(k: Granule, start: i64, bits: i64, pamax: u64) -> bool
 fn output2(r: El2) -> u64
     ensures { result ≡ (Roots.geometry2 r).outputsize }
 {
-    let vtcr = r.vtcr;
-    level::output_size(r.pamax, vtcr.ps())
+    level::output_size(r.pamax, r.vtcr.ps())
 }
 
 // Stage 2's start, by its output size. Without working that out it is small enough that the compiler copies it into each caller, and no
@@ -227,7 +240,7 @@ fn start_by(r: El2, output: u64) -> Start
     let k = granule2(r);
     let start = level::start2(k, vtcr);
     if startless(k, start, level::size_check(k, vtcr), r.pamax) {
-        return start::nowhere(Ending::Translation, 0);
+        return Start::nowhere(Ending::Translation, 0);
     }
     let n = level::levels_below(start);
     start_from(granule::geometry(k, 64 - vtcr.t0sz(), output), n, r.vttbr)
@@ -240,46 +253,44 @@ pub fn start2(r: El2) -> Start
     start_by(r, output2(r))
 }
 
-// Stage 2 for walks. Where it is off no walk starts and there is no IPA.
+// Stage 2's start. Where it is off no walk starts.
+#[tactic(auto, using(bits::proofs::Tests::choices), unfolding(bits::specs::Bits::pick, walk::specs::Ends::faulted))]
+fn start2_if_on(r: El2) -> Start
+    ensures { Starts result (Calls.narrowed2 r).root }
+{
+    if settings::stage2_on(r) {
+        start_by(r, output2(r))
+    } else {
+        Start::nowhere(Ending::Translation, 0)
+    }
+}
+
+// Stage 2 for walks. Where it is off there is no IPA.
 pub fn prepared2(r: El2) -> Prepared2
-    ensures { (stage2_of result ≡ Calls.narrowed2 r) × Sound2 result }
+    ensures { stage2_of result ≡ Calls.narrowed2 r }
 {
     let hcr = r.hcr;
     let vtcr = r.vtcr;
     let inputsize = 64 - vtcr.t0sz();
-    let cd = hcr.cd();
-    let id = hcr.id();
-    let ptw = hcr.ptw();
-    if settings::stage2_on(r) {
-        Prepared2 {
-            on: true,
-            inputsize,
-            above: turn::above(inputsize),
-            start: start_by(r, output2(r)),
-            cd,
-            id,
-            ptw,
-        }
-    } else {
-        Prepared2 {
-            on: false,
-            inputsize,
-            above: 0,
-            start: start::nowhere(Ending::Translation, 0),
-            cd,
-            id,
-            ptw,
-        }
+    Prepared2 {
+        on: settings::stage2_on(r),
+        inputsize,
+        above: turn::above(inputsize),
+        start: start2_if_on(r),
+        cd: hcr.cd(),
+        id: hcr.id(),
+        ptw: hcr.ptw(),
     }
 }
 
 // What attributes go by.
-pub fn memory(r: El2, g: El1) -> Memory
+#[tactic(auto, unfolding(crate::specs::Roots::stage1, crate::specs::Roots::stage2))]
+pub fn memory(r: El2, g: El1) -> AttributeControls
     ensures { result ≡ memory_of (Roots.stage1 r g) (Roots.stage2 r) }
 {
     let hcr = r.hcr;
     let sctlr = g.sctlr;
-    Memory {
+    AttributeControls {
         on1: settings::stage1_on(r, g),
         dc: hcr.dc(),
         mair: g.mair,

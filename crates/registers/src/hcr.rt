@@ -1,6 +1,8 @@
 ghost use Rattle.std.specs.Prelude.{◌≡◌};
 ghost use Rattle.registers.specs.Hcr as HcrFields;
 
+use bits::bit;
+
 // HCR_EL2: where its flags lie.
 #[repr(C)]
 #[derive(Clone, Copy)]
@@ -30,42 +32,42 @@ impl Hcr {
     pub fn vm(self) -> bool
         ensures { result ≡ HcrFields.vm self }
     {
-        (self.0 >> Hcr::VM_SHIFT) % 2 == 1
+        bit(self.0, Self::VM_SHIFT)
     }
 
     pub fn ptw(self) -> bool
         ensures { result ≡ HcrFields.ptw self }
     {
-        (self.0 >> Hcr::PTW_SHIFT) % 2 == 1
+        bit(self.0, Self::PTW_SHIFT)
     }
 
     pub fn dc(self) -> bool
         ensures { result ≡ HcrFields.dc self }
     {
-        (self.0 >> Hcr::DC_SHIFT) % 2 == 1
+        bit(self.0, Self::DC_SHIFT)
     }
 
     pub fn tge(self) -> bool
         ensures { result ≡ HcrFields.tge self }
     {
-        (self.0 >> Hcr::TGE_SHIFT) % 2 == 1
+        bit(self.0, Self::TGE_SHIFT)
     }
 
     pub fn rw(self) -> bool
         ensures { result ≡ HcrFields.rw self }
     {
-        (self.0 >> Hcr::RW_SHIFT) % 2 == 1
+        bit(self.0, Self::RW_SHIFT)
     }
 
     pub fn cd(self) -> bool
         ensures { result ≡ HcrFields.cd self }
     {
-        (self.0 >> Hcr::CD_SHIFT) % 2 == 1
+        bit(self.0, Self::CD_SHIFT)
     }
 
     pub fn id(self) -> bool
         ensures { result ≡ HcrFields.id self }
     {
-        (self.0 >> Hcr::ID_SHIFT) % 2 == 1
+        bit(self.0, Self::ID_SHIFT)
     }
 }

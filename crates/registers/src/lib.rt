@@ -1,4 +1,5 @@
-// Registers of the Non-secure EL1&0 regime, and PAMax. They have C's layout: the exported calls take them.
+// Registers of the Non-secure EL1&0 regime, and PAMax. They have C's layout: the exported calls take them. Each is a type of its own, so that
+// none is taken for another.
 #![tactic(auto)]
 
 use hcr::Hcr;

@@ -1,6 +1,8 @@
 ghost use Rattle.std.specs.Prelude.{◌≡◌};
 ghost use Rattle.registers.specs.Sctlr as SctlrFields;
 
+use bits::bit;
+
 // SCTLR_EL1 and SCTLR_EL2: where their flags lie.
 #[repr(C)]
 #[derive(Clone, Copy)]
@@ -26,30 +28,30 @@ impl Sctlr {
     pub fn m(self) -> bool
         ensures { result ≡ SctlrFields.m self }
     {
-        (self.0 >> Sctlr::M_SHIFT) % 2 == 1
+        bit(self.0, Self::M_SHIFT)
     }
 
     pub fn c(self) -> bool
         ensures { result ≡ SctlrFields.c self }
     {
-        (self.0 >> Sctlr::C_SHIFT) % 2 == 1
+        bit(self.0, Self::C_SHIFT)
     }
 
     pub fn i(self) -> bool
         ensures { result ≡ SctlrFields.i self }
     {
-        (self.0 >> Sctlr::I_SHIFT) % 2 == 1
+        bit(self.0, Self::I_SHIFT)
     }
 
     pub fn wxn(self) -> bool
         ensures { result ≡ SctlrFields.wxn self }
     {
-        (self.0 >> Sctlr::WXN_SHIFT) % 2 == 1
+        bit(self.0, Self::WXN_SHIFT)
     }
 
     pub fn ee(self) -> bool
         ensures { result ≡ SctlrFields.ee self }
     {
-        (self.0 >> Sctlr::EE_SHIFT) % 2 == 1
+        bit(self.0, Self::EE_SHIFT)
     }
 }

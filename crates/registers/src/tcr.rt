@@ -1,6 +1,8 @@
 ghost use Rattle.std.specs.Prelude.{◌≡◌};
 ghost use Rattle.registers.specs.Tcr as TcrFields;
 
+use bits::bit;
+
 // TCR_EL1: where its fields lie, and the masks of their values.
 #[repr(C)]
 #[derive(Clone, Copy)]
@@ -44,54 +46,54 @@ impl Tcr {
     pub fn t0sz(self) -> u64
         ensures { result ≡ TcrFields.t0sz self }
     {
-        (self.0 >> Tcr::T0SZ_SHIFT) % (Tcr::T0SZ_MASK + 1)
+        (self.0 >> Self::T0SZ_SHIFT) & Self::T0SZ_MASK
     }
 
     pub fn epd0(self) -> bool
         ensures { result ≡ TcrFields.epd0 self }
     {
-        (self.0 >> Tcr::EPD0_SHIFT) % 2 == 1
+        bit(self.0, Self::EPD0_SHIFT)
     }
 
     pub fn tg0(self) -> u64
         ensures { result ≡ TcrFields.tg0 self }
     {
-        (self.0 >> Tcr::TG0_SHIFT) % (Tcr::TG0_MASK + 1)
+        (self.0 >> Self::TG0_SHIFT) & Self::TG0_MASK
     }
 
     pub fn t1sz(self) -> u64
         ensures { result ≡ TcrFields.t1sz self }
     {
-        (self.0 >> Tcr::T1SZ_SHIFT) % (Tcr::T1SZ_MASK + 1)
+        (self.0 >> Self::T1SZ_SHIFT) & Self::T1SZ_MASK
     }
 
     pub fn epd1(self) -> bool
         ensures { result ≡ TcrFields.epd1 self }
     {
-        (self.0 >> Tcr::EPD1_SHIFT) % 2 == 1
+        bit(self.0, Self::EPD1_SHIFT)
     }
 
     pub fn tg1(self) -> u64
         ensures { result ≡ TcrFields.tg1 self }
     {
-        (self.0 >> Tcr::TG1_SHIFT) % (Tcr::TG1_MASK + 1)
+        (self.0 >> Self::TG1_SHIFT) & Self::TG1_MASK
     }
 
     pub fn ips(self) -> u64
         ensures { result ≡ TcrFields.ips self }
     {
-        (self.0 >> Tcr::IPS_SHIFT) % (Tcr::IPS_MASK + 1)
+        (self.0 >> Self::IPS_SHIFT) & Self::IPS_MASK
     }
 
     pub fn tbi0(self) -> bool
         ensures { result ≡ TcrFields.tbi0 self }
     {
-        (self.0 >> Tcr::TBI0_SHIFT) % 2 == 1
+        bit(self.0, Self::TBI0_SHIFT)
     }
 
     pub fn tbi1(self) -> bool
         ensures { result ≡ TcrFields.tbi1 self }
     {
-        (self.0 >> Tcr::TBI1_SHIFT) % 2 == 1
+        bit(self.0, Self::TBI1_SHIFT)
     }
 }

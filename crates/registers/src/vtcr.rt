@@ -32,24 +32,24 @@ impl Vtcr {
     pub fn t0sz(self) -> u64
         ensures { result ≡ VtcrFields.t0sz self }
     {
-        (self.0 >> Vtcr::T0SZ_SHIFT) % (Vtcr::T0SZ_MASK + 1)
+        (self.0 >> Self::T0SZ_SHIFT) & Self::T0SZ_MASK
     }
 
     pub fn sl0(self) -> u64
         ensures { result ≡ VtcrFields.sl0 self }
     {
-        (self.0 >> Vtcr::SL0_SHIFT) % (Vtcr::SL0_MASK + 1)
+        (self.0 >> Self::SL0_SHIFT) & Self::SL0_MASK
     }
 
     pub fn tg0(self) -> u64
         ensures { result ≡ VtcrFields.tg0 self }
     {
-        (self.0 >> Vtcr::TG0_SHIFT) % (Vtcr::TG0_MASK + 1)
+        (self.0 >> Self::TG0_SHIFT) & Self::TG0_MASK
     }
 
     pub fn ps(self) -> u64
         ensures { result ≡ VtcrFields.ps self }
     {
-        (self.0 >> Vtcr::PS_SHIFT) % (Vtcr::PS_MASK + 1)
+        (self.0 >> Self::PS_SHIFT) & Self::PS_MASK
     }
 }

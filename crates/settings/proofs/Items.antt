@@ -4,11 +4,13 @@ use mathlib.Core.Path.{◌≡◌, refl, sym, ◌∙◌}
 use mathlib.Core.Bool.{Bool, true, false, true≢false, false≢true}
 use mathlib.Core.List.{List, [], ◌∷◌, ◌++◌}
 use Prim.Native.Nat.{ℕ}
+use native.Mathlib.Omega.{arith}
 use lib.Dec.{eqb}
 use borrow.Author.Tests.{eq-eqb, not-true, not-false}
 use Rattle.bits.specs.Bits.{pick}
 use Rattle.bits.proofs.Tests.{choices}
-use Rattle.settings.specs.Settings.{first_failing}
+use Rattle.settings.specs.Settings.{first_failing, number}
+use Rattle.settings.specs.declared.Item.{Item}
 
 -- whether the item of a number holds; one that is not in the list does
 unfoldable pub holds_at : ℕ → List (ℕ × Bool) → Bool
@@ -47,6 +49,24 @@ in_order (i ∷ l) others q = by_tests (eqb i.0 0) i.1 refl q (in_order l others
     by_tests true holds z p after = absurd (false≢true p)
     by_tests false true z p after = after p
     by_tests false false z p after = rw z
+
+-- no item has the number 0
+pub number_some : (i : Item) → eqb (number i) 0 ≡ false
+number_some i = grind arith
+
+-- and no two have one number
+pub number_injective : (i j : Item) → number i ≡ number j → i ≡ j
+number_injective i j e = grind arith
+
+-- an item that fails among the first stays the first that fails
+pub first_fails : (i : Item) (l others : List (ℕ × Bool)) → numbered l ≡ true → number i ≡ first_failing l → number i ≡ first_failing (l ++ others)
+unfolding pick
+first_fails i l others q e = rw (in_order l others q, ← e, number_some i)
+
+-- where the first hold, the others decide
+pub first_hold : (l others : List (ℕ × Bool)) → numbered l ≡ true → 0 ≡ first_failing l → first_failing (l ++ others) ≡ first_failing others
+unfolding pick
+first_hold l others q e = rw (in_order l others q, ← e)
 
 -- what a return after tests of items says of them
 pub ruleset returned = (choices, not-true, not-false)

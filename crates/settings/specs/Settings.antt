@@ -1,6 +1,6 @@
 -- Which registers are accepted (01, Settings).
 -- Assumes nothing.
-use Rattle.std.specs.Prelude.{Bool, not, ◌&&◌, ◌||◌, List, [], ◌∷◌, ℕ, ◌-◌, leb, eqb}
+use Rattle.std.specs.Prelude.{Bool, not, ◌&&◌, ◌||◌, List, [], ◌∷◌, ℕ, ◌-◌, leb, eqb, Result, Ok, Err}
 use Rattle.bits.specs.Bits.{pick}
 use Rattle.registers.specs.Tcr
 use Rattle.registers.specs.Vtcr
@@ -8,6 +8,8 @@ use Rattle.registers.specs.Hcr
 use Rattle.registers.specs.Sctlr
 use Rattle.registers.specs.declared.El1.{El1}
 use Rattle.registers.specs.declared.El2.{El2}
+use Rattle.settings.specs.declared.Item.{Item}
+use Rattle.settings.specs.declared.Item.TheVariants.{Pamax, Tge, Rw, BigEndian, Ips, LowerRange, UpperRange, Ps, Stage2Size}
 
 abbrev pub stage1_on : El2 → El1 → Bool
 stage1_on r g = Sctlr.m g.sctlr && not (Hcr.dc r.hcr)
@@ -88,3 +90,21 @@ settings r g = first_failing (items r g)
 -- the audit's
 unfoldable pub audit_settings : El2 → ℕ
 audit_settings r = first_failing (audit_items r)
+
+-- ---- what code returns: nothing, or the item that fails
+
+abbrev pub number : Item → ℕ
+number Pamax = 1
+number Tge = 2
+number Rw = 3
+number BigEndian = 4
+number Ips = 5
+number LowerRange = 6
+number UpperRange = 7
+number Ps = 8
+number Stage2Size = 9
+
+-- as the definitions say it
+abbrev pub item_word : Result (Unit {0}) Item → ℕ
+item_word (Ok u) = 0
+item_word (Err i) = number i

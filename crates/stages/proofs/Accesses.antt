@@ -9,15 +9,12 @@ use Rattle.bits.specs.Bits.{upper, beyond}
 use Rattle.reads.specs.Program.{stage_1, stage_2, Request, done}
 use Rattle.descriptor.specs.Entry.{descriptor_type, output_address, nothing}
 use Rattle.access.specs.declared.Access.{Access}
-use Rattle.reads.specs.declared.Read.{Read}
-use Rattle.reads.specs.declared.Read.TheVariants.{Word}
+use Rattle.std.specs.Prelude.{Option, Some, Ok, Err, None}
 use Rattle.descriptor.specs.declared.entry.Geometry.{Geometry}
 use Rattle.descriptor.specs.declared.entry.DescriptorType.{DescriptorType}
 use Rattle.descriptor.specs.declared.entry.FaultKind.{FaultKind}
 use Rattle.descriptor.specs.declared.entry.FaultKind.TheVariants.{Permission}
 use Rattle.attributes.specs.declared.Attributes.{Attributes}
-use Rattle.attributes.specs.declared.Decoded.{Decoded}
-use Rattle.attributes.specs.declared.Decoded.TheVariants.{Settled, Unsettled}
 use Rattle.bits.proofs.Tests.{by_pick}
 use Rattle.reads.proofs.Holds.{Holds, on_done, on_stop, holds_bind, holds_pick}
 use Rattle.walk.specs.declared.stop.Stage.{Stage}
@@ -26,11 +23,9 @@ use Rattle.walk.specs.declared.stop.Stop.{Stop}
 use Rattle.walk.specs.declared.stop.Stop.TheVariants.{Misaligned}
 use Rattle.walk.specs.declared.table.Leaf.{Leaf}
 use Rattle.walk.specs.declared.table.Table.{Table}
-use Rattle.walk.specs.declared.table.Root.{Root}
-use Rattle.walk.specs.declared.table.Root.TheVariants.{Unusable, Usable}
+use Rattle.walk.specs.Root.{Root, unusable}
 use Rattle.walk.specs.declared.check.Output.{Output}
-use Rattle.walk.specs.declared.check.Checked.{Checked}
-use Rattle.walk.specs.declared.check.Checked.TheVariants.{Passed, Stopped}
+use Rattle.walk.specs.Checked.{Checked}
 use Rattle.stages.specs.declared.stage1.Stage1.{Stage1}
 use Rattle.walk.specs.declared.stage2.Stage2.{Stage2}
 use Rattle.walk.specs.Walk.{Reading, fault, absent, unsettled, walk_from}
@@ -44,8 +39,8 @@ use Rattle.walk.proofs.Walks.{Says, holds_walk}
 
 -- of a usable root: its base, and each table that an entry leads to
 abbrev pub Aligned : Root → Type 0
-Aligned (Unusable kind level) = Unit {0}
-Aligned (Usable t) = (t.base % 8 ≡ 0) × ((x : ℕ) → upper x t.geometry.grainsize % 8 ≡ 0)
+Aligned (Err u) = Unit {0}
+Aligned (Ok t) = (t.base % 8 ≡ 0) × ((x : ℕ) → upper x t.geometry.grainsize % 8 ≡ 0)
 
 pub upper_aligned : (x low : ℕ) → upper x (3 + low) % 8 ≡ 0
 upper_aligned x low =
@@ -73,7 +68,7 @@ pub record Hit (L : ℕ → ℕ → Type 0) (ipa o : ℕ) : Type 0 where
 
 -- P of each read and S of each stop over the memory m. F: where stage 1's descriptors may lie.
 -- T and L: stage 2's tables and leaves, from its root down, as `says` has it of each entry.
-pub record Around (m : Request → Read) (P : Request → Type 0) (S : Stop → Type 0)
+pub record Around (m : Request → Option ℕ) (P : Request → Type 0) (S : Stop → Type 0)
     (F : ℕ → Type 0) (T : ℕ → ℕ → ℕ → Type 0) (L : ℕ → ℕ → Type 0) (root : Table) : Type 0 where
   pub faults : (s : Stage) (kind : FaultKind) (level : ℕ) → S (fault kind s level)
   pub opens : (s : Stage) (level : ℕ) → S (unsettled s level)
@@ -84,10 +79,10 @@ pub record Around (m : Request → Read) (P : Request → Type 0) (S : Stop → 
   pub read2 : (n at : ℕ) → Spot T n at → P (record { reader = stage_2; address = at })
   pub top : T root.levels root.bits root.base
   pub says : (n bits table index x : ℕ) → T (suc n) bits table → index < 2 ^ bits →
-      m (record { reader = stage_2; address = table + 8 * index }) ≡ Word x → Says T L root.geometry n x (descriptor_type root.geometry n x)
+      m (record { reader = stage_2; address = table + 8 * index }) ≡ Some x → Says T L root.geometry n x (descriptor_type root.geometry n x)
   pub lies : (ipa o : ℕ) → ipa % 8 ≡ 0 → Hit L ipa o → F o
 
-module _ (m : Request → Read) (P : Request → Type 0) (S : Stop → Type 0)
+module _ (m : Request → Option ℕ) (P : Request → Type 0) (S : Stop → Type 0)
     (F : ℕ → Type 0) (T : ℕ → ℕ → ℕ → Type 0) (L : ℕ → ℕ → Type 0) (root : Table) (w : Around m P S F T L root) where
   abbrev H : {A : Type 0} → (A → Type 0) → Reading A → Type 0
   H = Holds m P S
@@ -100,8 +95,8 @@ module _ (m : Request → Read) (P : Request → Type 0) (S : Stop → Type 0)
 
   -- what holds of a check's outcome
   data Checks (R : Output → Type 0) : Checked → Type 0 where
-    passes : {o : Output} → R o → Checks R (Passed o)
-    stops : {e : Stop} → S e → Checks R (Stopped e)
+    passes : {o : Output} → R o → Checks R (Ok o)
+    stops : {e : Stop} → S e → Checks R (Err e)
 
   holds_give : {R : Output → Type 0} {c : Checked} → Checks R c → H R (give c)
   unfolding give
@@ -110,25 +105,25 @@ module _ (m : Request → Read) (P : Request → Type 0) (S : Stop → Type 0)
 
   checks_unless : {R : Output → Type 0} {c : Checked} (b : Bool) (e : Stop) → S e → Checks R c → Checks R (unless b e c)
   unfolding unless
-  checks_unless {R} {c} b e s h = by_pick (Checks R) b (Stopped e) c (λ _. stops s) (λ _. h)
+  checks_unless {R} {c} b e s h = by_pick (Checks R) b (Err e) c (λ _. stops s) (λ _. h)
 
   checks_permitted : {R : Output → Type 0} (s : Stage) (input : ℕ) (l : Leaf) (misaligned denied : Bool) (t : Attributes) → S (Misaligned s) → S (fault Permission s l.level) →
       R (record { address = output_address l.word l.shift input; attributes = t; level = l.level }) → Checks R (permitted s input l misaligned denied t)
   unfolding permitted
   checks_permitted s input l misaligned denied t m f r = checks_unless _ _ m (checks_unless _ _ f (passes r))
 
-  checks_settled : {R : Output → Type 0} (e : Stop) (k : Attributes → Checked) → S e → ((a : Attributes) → Checks R (k a)) → (d : Decoded) → Checks R (settled e k d)
+  checks_settled : {R : Output → Type 0} (e : Stop) (k : Attributes → Checked) → S e → ((a : Attributes) → Checks R (k a)) → (d : Option Attributes) → Checks R (settled e k d)
   unfolding settled
-  checks_settled e k s h (Settled a) = h a
-  checks_settled e k s h Unsettled = stops s
+  checks_settled e k s h (Some a) = h a
+  checks_settled e k s h None = stops s
 
   -- ---- stage 2
 
-  spot_says : (n at x : ℕ) → Spot T n at → m (record { reader = stage_2; address = at }) ≡ Word x → Says T L root.geometry n x (descriptor_type root.geometry n x)
+  spot_says : (n at x : ℕ) → Spot T n at → m (record { reader = stage_2; address = at }) ≡ Some x → Says T L root.geometry n x (descriptor_type root.geometry n x)
   spot_says n at x p e =
-      w.says n p.bits p.table p.index x p.of p.less (subst (λ z. m (record { reader = stage_2; address = z }) ≡ Word x) p.is e)
+      w.says n p.bits p.table p.index x p.of p.less (subst (λ z. m (record { reader = stage_2; address = z }) ≡ Some x) p.is e)
 
-  holds_walk2 : (ipa : ℕ) (is_on_walk : Bool) (r : Root) → r ≡ Usable root → H (λ l. L l.word l.shift) (walk_from done (Two ipa is_on_walk) ipa r)
+  holds_walk2 : (ipa : ℕ) (is_on_walk : Bool) (r : Root) → r ≡ Ok root → H (λ l. L l.word l.shift) (walk_from done (Two ipa is_on_walk) ipa r)
   unfolding walk_from
   holds_walk2 ipa is_on_walk r e =
       subst (λ z. H (λ (l : Leaf). L l.word l.shift) (walk_from done (Two ipa is_on_walk) ipa z)) (sym e)
@@ -137,7 +132,7 @@ module _ (m : Request → Read) (P : Request → Type 0) (S : Stop → Type 0)
       (λ n at p. w.read2 n at p) (λ n at level p. w.gap2 at ipa is_on_walk level) spot_says
       ipa root.levels root.bits root.base nothing w.top)
 
-  module _ (s2 : Stage2) (rooted : s2.root ≡ Usable root) (a : Access) where
+  module _ (s2 : Stage2) (rooted : s2.root ≡ Ok root) (a : Access) where
     checks2 : (is_on_walk : Bool) (ipa : ℕ) (l : Leaf) → L l.word l.shift → Checks (λ o. Hit L ipa o.address) (check2 s2 a is_on_walk ipa l)
     unfolding check2
     checks2 is_on_walk ipa l h =
@@ -148,7 +143,7 @@ module _ (m : Request → Read) (P : Request → Type 0) (S : Stop → Type 0)
     unfolding translate2 walk_from
     holds_translate2 is_on_walk ipa =
         holds_bind m _ _ _
-        (by_pick (λ r. H (λ (l : Leaf). L l.word l.shift) (walk_from done (Two ipa is_on_walk) ipa r)) (beyond ipa s2.inputsize) (Unusable _ _) s2.root
+        (by_pick (λ r. H (λ (l : Leaf). L l.word l.shift) (walk_from done (Two ipa is_on_walk) ipa r)) (beyond ipa s2.inputsize) (unusable _ _) s2.root
         (λ _. on_stop (w.faults _ _ _)) (λ _. holds_walk2 ipa is_on_walk s2.root rooted))
         (λ l h. holds_give (checks2 is_on_walk ipa l h))
 
@@ -169,8 +164,8 @@ module _ (m : Request → Read) (P : Request → Type 0) (S : Stop → Type 0)
 
       holds_walk1 : (r : Root) → Aligned r → H Any (walk_from (place1 s2 a) One a.address r)
       unfolding walk_from
-      holds_walk1 (Unusable kind level) h = on_stop (w.faults _ _ _)
-      holds_walk1 (Usable t) h =
+      holds_walk1 (Err u) h = on_stop (w.faults _ _ _)
+      holds_walk1 (Ok t) h =
           holds_walk m P S (λ k j table. table % 8 ≡ 0) (λ n at. F at) (λ x k. Unit {0}) One (w.faults _) (w.opens _) t.geometry (place1 s2 a)
           (λ n j table i e less. holds_place (table + 8 * i) (omega arith))
           (λ n at f. w.read1 at f) (λ n at level f. w.gap1 at level f) (λ n at x f e. one_says t.geometry h.1 n x (descriptor_type t.geometry n x))

@@ -1,18 +1,18 @@
 -- Calls that ran an access: from what stage 2 gave for one address, through the levels of stage 1, to the end.
 -- Assumes nothing.
 use mathlib.Core.Path.{◌≡◌, refl, sym, ◌∙◌}
-use mathlib.Core.Bool.{Bool, true, false, true≢false}
+use Rattle.std.proofs.Common.{Bool, true, false, true≢false, not, ◌||◌}
 use mathlib.Core.List.{List}
 use Prim.Native.Nat.{ℕ, suc, ◌+◌, ◌-◌, ◌*◌, ◌≤◌, ◌<◌}
 use native.Mathlib.Omega.{arith}
+use Rattle.std.proofs.lemmas.Bool.{not-true}
 use lib.Bits.{bit_or}
 use lib.ListN.{length, set}
 use Rattle.bits.specs.Bits.{pick, field, upper}
 use Rattle.bits.proofs.Tests.{pick_true, pick_false}
 use Rattle.reads.specs.Program.{Request, reached, stopped, done, bind}
 use Rattle.reads.specs.Ran.{Ran}
-use Rattle.reads.specs.declared.Read.{Read}
-use Rattle.reads.specs.declared.Read.TheVariants.{Absent, Word}
+use Rattle.std.specs.Prelude.{Option, Some, None}
 use Rattle.reads.proofs.Ran.{ran_done, ran_then, ran_stopped, ran_true, ran_false, ran_length}
 use Rattle.access.specs.declared.Access.{Access}
 use Rattle.attributes.specs.Attributes.{class_of, settled_part, stage1_attributes, stage2_attributes, combine}
@@ -28,7 +28,6 @@ use Rattle.walk.specs.declared.stop.Stage.{Stage}
 use Rattle.walk.specs.declared.stop.Stage.TheVariants.{One, Two}
 use Rattle.walk.specs.declared.stop.Stop.{Stop}
 use Rattle.walk.specs.declared.table.Leaf.{Leaf}
-use Rattle.walk.specs.declared.check.Output.{Output}
 use Rattle.walk.specs.declared.end.Ending.{Ending}
 use Rattle.walk.specs.declared.end.Ending.TheVariants as E
 use Rattle.walk.specs.declared.end.End.{End}
@@ -37,14 +36,19 @@ use Rattle.walk.proofs.Ends.{outcome_passed, outcome_stopped, over_stops, ran_gi
 use Rattle.walk.proofs.Turns.{leaf_at, req, Walking, walking_stopped, walking_absent, walking_leaf, walking_over, walking_down}
 use Rattle.stages.specs.Stage1.{place1, root1_at, uncached1, denied1, check1, translate1}
 use Rattle.stages.specs.Stages.{finish, access}
-use Rattle.stages.specs.Calls.{finished_at, output_of, leaf_level, stage_by, arrived, at_first, as_it_is, ending1}
+use Rattle.stages.specs.Calls.{finished_at, output_of, leaf_level, stage_by, arrived, at_first, as_it_is, ending1, Seconded}
 use Rattle.stages.specs.declared.stage1.Stage1.{Stage1}
 use Rattle.stages.specs.declared.both.Translation.{Translation}
 use Rattle.stages.specs.declared.both.By.{By}
 use Rattle.stages.specs.declared.both.By.TheVariants.{OnWalk, Second}
 
+both_true : (w p : Bool) → (not w || not p) ≡ false → (w ≡ true) × (p ≡ true)
+both_true true true e = (refl, refl)
+both_true true false e = absurd (true≢false e)
+both_true false p e = absurd (true≢false e)
+
 -- an end, and what follows where it passed
-ran_outcome : {A B : Type 0} (m : Request → Read) {p : Reading A} (f : A → Reading B) (s : Stage) (v : A) (w : B) (e : End) {log l : List ℕ} {k end : ℕ} →
+ran_outcome : {A B : Type 0} (m : Request → Option ℕ) {p : Reading A} (f : A → Reading B) (s : Stage) (v : A) (w : B) (e : End) {log l : List ℕ} {k end : ℕ} →
     Ran m (f v) l end (reached w) end l → Ran m p log k (outcome s v e) end l → Ran m (bind p f) log k (outcome s w e) end l
 ran_outcome {A} {B} m {p} f s v w e {log} {l} {k} {end} q = by_passed (passed e.ending) refl
   where
@@ -54,18 +58,13 @@ ran_outcome {A} {B} m {p} f s v w e {log} {l} {k} {end} q = by_passed (passed e.
 
 -- ---- stage 2
 
--- what it gives, if it is on, of a stage 1 descriptor's address, and of stage 1's output
-pub record Seconded (m : Request → Read) (s : Stage2) (a : Access) (w : Bool) (ipa : ℕ) (log : List ℕ) (count : ℕ) (r : End) (log' : List ℕ) : Type 0 where
-  pub placed : w ≡ true → Ran m (place1 s a ipa) log count (outcome (Two ipa true) r.address r) r.count log'
-  pub finished : w ≡ false → (o : Output) → o.address ≡ ipa → Ran m (finish s a o) log count (outcome (Two ipa false) (finished_at s a o r) r) r.count log'
-
 -- where it puts a stage 1 descriptor, or the IPA as it is where it is off
-pub record Placed (m : Request → Read) (s : Stage2) (a : Access) (walking : Bool) (ipa : ℕ) (log : List ℕ) (count place count' : ℕ) (log' : List ℕ) : Type 0 where
+pub record Placed (m : Request → Option ℕ) (s : Stage2) (a : Access) (walking : Bool) (ipa : ℕ) (log : List ℕ) (count place count' : ℕ) (log' : List ℕ) : Type 0 where
   pub walks : walking ≡ true
   pub run : Ran m (place1 s a ipa) log count (reached place) count' log'
   pub few : count' ≤ count + 4
 
-module _ (m : Request → Read) (s : Stage2) (a : Access) (ipa : ℕ) {log : List ℕ} {count : ℕ} where
+module _ (m : Request → Option ℕ) (s : Stage2) (a : Access) (ipa : ℕ) {log : List ℕ} {count : ℕ} where
   pub seconded_off : (w : Bool) → s.on ≡ false → Seconded m s a w ipa log count (as_it_is ipa count) log
   unfolding place1 finish outcome pick
   seconded_off w off =
@@ -73,10 +72,6 @@ module _ (m : Request → Read) (s : Stage2) (a : Access) (ipa : ℕ) {log : Lis
         placed = λ _. ran_false m _ off (ran_done m ipa log count);
         finished = λ _ o e. ran_false m _ off (rw (e, pick_false s.on (combine o.attributes (settled_part (stage2_attributes (uncached2 s a false) 0))) o.attributes off) (ran_done m _ log count));
       }
-
-  pub placed_off : {w : Bool} → s.on ≡ false → w ≡ true → Placed m s a w ipa log count ipa count log
-  unfolding place1
-  placed_off off e = record { walks = e; run = ran_false m _ off (ran_done m ipa log count); few = omega arith }
 
   module _ (on : s.on ≡ true) {log' : List ℕ} where
     pub seconded_on : (w : Bool) (r : End) → Ran m (translate2 s a w ipa) log count (ended (Two ipa w) (stage2_attributes (uncached2 s a w)) r) r.count log' → Seconded m s a w ipa log count r log'
@@ -92,7 +87,7 @@ module _ (m : Request → Read) (s : Stage2) (a : Access) (ipa : ℕ) {log : Lis
 
 -- ---- stage 1, and the whole access
 
-module _ (m : Request → Read) (s1 : Stage1) (s2 : Stage2) (a : Access) where
+module _ (m : Request → Option ℕ) (s1 : Stage1) (s2 : Stage2) (a : Access) where
   -- the walk for the address
   abbrev pub whole : Reading Leaf
   whole = walk_from (place1 s2 a) One a.address (root1_at s1 a.address)
@@ -120,13 +115,13 @@ module _ (m : Request → Read) (s1 : Stage1) (s2 : Stage2) (a : Access) where
     first_stopped e p r = rw (outcome_stopped {A = Translation} One (finished_at s2 a (output_of s1 a 0 (leaf_level s1 0) 0) e) e p) r
 
 -- where an access stands: at an entry of stage 1's walk, or at stage 1's output
-pub data Going (m : Request → Read) (s1 : Stage1) (s2 : Stage2) (a : Access) (g : Geometry) (log₀ log : List ℕ) (walking : Bool) (left t ipa tables word1 k : ℕ) : Type 0 where
+pub data Going (m : Request → Option ℕ) (s1 : Stage1) (s2 : Stage2) (a : Access) (g : Geometry) (log₀ log : List ℕ) (walking : Bool) (left t ipa tables word1 k : ℕ) : Type 0 where
   walks : walking ≡ true → s1.on ≡ true → Walking m (place1 s2 a) g One a.address (whole m s1 s2 a) log₀ 0 log k left t ipa (imposed tables) → k + 5 * suc left ≤ 20 →
       Going m s1 s2 a g log₀ log walking left t ipa tables word1 k
   ends : walking ≡ false → Ran m (translate1 s1 (root1_at s1 a.address) s2 a) log₀ 0 (reached (output_of s1 a ipa (leaf_level s1 left) word1)) k log → k ≤ 20 →
       Going m s1 s2 a g log₀ log walking left t ipa tables word1 k
 
-module _ {m : Request → Read} {s1 : Stage1} {s2 : Stage2} {a : Access} {g : Geometry} {log₀ log : List ℕ} {walking : Bool} {left t ipa tables word1 k : ℕ} where
+module _ {m : Request → Option ℕ} {s1 : Stage1} {s2 : Stage2} {a : Access} {g : Geometry} {log₀ log : List ℕ} {walking : Bool} {left t ipa tables word1 k : ℕ} where
   at_entry : Going m s1 s2 a g log₀ log walking left t ipa tables word1 k → walking ≡ true →
       (s1.on ≡ true) × Walking m (place1 s2 a) g One a.address (whole m s1 s2 a) log₀ 0 log k left t ipa (imposed tables) × (k + 5 * suc left ≤ 20)
   at_entry (walks w on i few) e = (on, i, few)
@@ -153,43 +148,48 @@ module _ {m : Request → Read} {s1 : Stage1} {s2 : Stage2} {a : Access} {g : Ge
 
 -- ---- with what stage 2 gave
 
-module _ {m : Request → Read} {s1 : Stage1} {s2 : Stage2} {a : Access} {g : Geometry} {log₀ log : List ℕ} {walking : Bool} {left t ipa tables word1 k : ℕ}
+module _ {m : Request → Option ℕ} {s1 : Stage1} {s2 : Stage2} {a : Access} {g : Geometry} {log₀ log : List ℕ} {walking : Bool} {left t ipa tables word1 k : ℕ}
     (now : Going m s1 s2 a g log₀ log walking left t ipa tables word1 k) {r : End} {log₁ : List ℕ} (x : Seconded m s2 a walking ipa log k r log₁) where
   abbrev Arrives : By → Type 0
   Arrives b = Ran m (access s1 s2 a) log₀ 0 (arrived s1 s2 a (record { by = b; end = r; ipa = ipa; left1 = left; word1 = word1 })) r.count log₁
 
-  pub going_ends : walking ≡ false → Arrives Second
+  ends_at : walking ≡ false → Arrives Second
   unfolding access arrived stage_by
-  going_ends e = ran_then m (finish s2 a) (at_output_lem now e) (x.finished e (output_of s1 a ipa (leaf_level s1 left) word1) refl)
+  ends_at e = ran_then m (finish s2 a) (at_output_lem now e) (x.finished e (output_of s1 a ipa (leaf_level s1 left) word1) refl)
 
-  pub going_stops : passed r.ending ≡ false → Arrives (pick walking OnWalk Second)
+  -- an access whose walk is over, or that stage 2 stopped
+  pub going_ends : (not walking || not (passed r.ending)) ≡ true → Arrives (pick walking OnWalk Second)
   unfolding arrived stage_by pick
-  going_stops p = by_walking walking refl
+  going_ends h = by_walking walking refl
     where
       by_walking : (b : Bool) → walking ≡ b → Arrives (pick b OnWalk Second)
       by_walking true e =
           let i = at_entry now e in
+          let p = not-true _ (rw e at h) in
           rw (outcome_stopped {A = Translation} (Two ipa true) (finished_at s2 a (output_of s1 a ipa (leaf_level s1 left) word1) r) r p)
           (stopped_walk m s1 s2 a i.0 (walking_stopped i.1 (rw (outcome_stopped (Two ipa true) r.address r p) at (x.placed e))))
-      by_walking false e = going_ends e
+      by_walking false e = ends_at e
 
-  pub placed_on : passed r.ending ≡ true → walking ≡ true → r.count ≤ k + 4 → Placed m s2 a walking ipa log k r.address r.count log₁
-  placed_on p e few = record { walks = e; run = rw (outcome_passed (Two ipa true) r.address r p) at (x.placed e); few = few }
+  -- or that goes on
+  pub going_placed : (not walking || not (passed r.ending)) ≡ false → r.count ≤ k + 4 → Placed m s2 a walking ipa log k r.address r.count log₁
+  going_placed h few =
+      let both = both_true walking (passed r.ending) h in
+      record { walks = both.0; run = rw (outcome_passed (Two ipa true) r.address r both.1) at (x.placed both.0); few = few }
 
 -- ---- at an entry that is placed
 
-module _ {m : Request → Read} {s1 : Stage1} {s2 : Stage2} {a : Access} {g : Geometry} {log₀ log : List ℕ} {walking : Bool} {left t ipa tables word1 k : ℕ}
+module _ {m : Request → Option ℕ} {s1 : Stage1} {s2 : Stage2} {a : Access} {g : Geometry} {log₀ log : List ℕ} {walking : Bool} {left t ipa tables word1 k : ℕ}
     (now : Going m s1 s2 a g log₀ log walking left t ipa tables word1 k) {place k' : ℕ} {log₁ : List ℕ} (x : Placed m s2 a walking ipa log k place k' log₁) where
-  abbrev At : Read → Type 0
+  abbrev At : Option ℕ → Type 0
   At f = m (req m (place1 s2 a) g One a.address place) ≡ f
 
-  pub going_absent : (e : End) → e.ending ≡ E.Absent → e.address ≡ place → e.level ≡ 3 - left → At Absent → Ran m (access s1 s2 a) log₀ 0 (arrived s1 s2 a (at_first e)) k' log₁
+  pub going_absent : (e : End) → e.ending ≡ E.Absent → e.address ≡ place → e.level ≡ 3 - left → At None → Ran m (access s1 s2 a) log₀ 0 (arrived s1 s2 a (at_first e)) k' log₁
   unfolding stop_by
   going_absent e q u v f =
       let i = at_entry now x.walks in
       first_stopped m s1 s2 a e (rw q) (rw (q, u, v) (stopped_walk m s1 s2 a i.0 (walking_absent i.1 x.run f)))
 
-  module _ {y : ℕ} (f : At (Word y)) where
+  module _ {y : ℕ} (f : At (Some y)) where
     abbrev Log : List ℕ
     Log = set log₁ k' place
 

@@ -6,12 +6,12 @@ use Prim.Native.Nat.{ℕ, suc, ◌+◌, ◌*◌}
 use native.Mathlib.Nat.{zero-mul}
 use Rattle.bits.specs.Bits.{pick}
 use Rattle.reads.specs.Program.{Request}
-use Rattle.reads.specs.declared.Read.{Read}
+use Rattle.std.specs.Prelude.{Option}
 use Rattle.reads.proofs.Tally.{Tight, tight_done, tight_bind, tight_choice}
 use Rattle.access.specs.declared.Access.{Access}
 use Rattle.walk.specs.Checks.{give}
 use Rattle.walk.specs.declared.stop.Stage.TheVariants.{One}
-use Rattle.walk.specs.declared.table.Root.{Root}
+use Rattle.walk.specs.Root.{Root}
 use Rattle.walk.specs.declared.check.Output.{Output}
 use Rattle.walk.specs.declared.stage2.Stage2.{Stage2}
 use Rattle.walk.proofs.Counts.{HasLevels, tight_then, tight_give, tight_from, tight_translate2}
@@ -20,7 +20,7 @@ use Rattle.stages.specs.Stage1.{place1, root1_at, check1, stage1_off, translate1
 use Rattle.stages.specs.Stages.{finish, access}
 
 -- stage 2 with n2 levels
-module _ (m : Request → Read) (s : Stage2) (a : Access) (n2 : ℕ) (levels : HasLevels n2 s.root) where
+module _ (m : Request → Option ℕ) (s : Stage2) (a : Access) (n2 : ℕ) (levels : HasLevels n2 s.root) where
   -- the reads of one stage 2 translation: none with stage 2 off
   abbrev each : ℕ
   each = pick s.on n2 0

@@ -14,10 +14,11 @@ use Rattle.bits.specs.Bits.{pick, bit}
 use Rattle.bits.proofs.Tests.{by_pick, pick_false}
 use Rattle.bits.proofs.Shifts.{shifted_out}
 use Rattle.descriptor.specs.declared.entry.FaultKind.TheVariants.{Translation}
-use Rattle.walk.specs.declared.table.Root.{Root}
-use Rattle.walk.specs.declared.table.Root.TheVariants.{Unusable}
+use Rattle.walk.specs.Root.{Root, unusable}
 use Rattle.stages.specs.Stage1.{root1_at}
-use Rattle.stages.specs.Ranges.{counted, ones, within, bounds_of, Counting, range_at, root_at, Narrow, limited, disabled}
+use Rattle.std.proofs.Common.{inl, inr}
+use Rattle.std.proofs.lemmas.Bool.{cases_lt}
+use Rattle.stages.specs.Ranges.{counted, ones, within, bounds_of, Counting, range_at, root_at, Narrow}
 use Rattle.stages.specs.declared.stage1.VaRange.{VaRange}
 use Rattle.stages.specs.declared.stage1.Stage1.{Stage1}
 use Rattle.stages.specs.declared.range.Bounds.{Bounds}
@@ -65,7 +66,7 @@ none_within x n h =
 -- ---- roots
 
 abbrev none : Root
-none = Unusable Translation 0
+none = unusable Translation 0
 
 upper_picked : (s : Stage1) (b : Bool) → pick (not b) s.upper.root none ≡ root_at s (pick b Neither Upper)
 unfolding pick root_at
@@ -101,8 +102,11 @@ set_63 a e = omega (arith, eqb-true (a / 2 ^ 63 % 2) 1 e)
 
 -- an address outside of a range. A disabled range has the same root
 left_out : (r : VaRange) (b : Bool) → Narrow r → (r.inputsize ≤ 48 → b ≡ false) → pick b r.root none ≡ none
-left_out r b (limited h) f = pick_false b _ _ (f h)
-left_out r b (disabled e) f = by_pick (λ x. x ≡ none) b r.root none (λ _. e) (λ _. refl)
+left_out r b narrow f =
+    elim (cases_lt 48 r.inputsize) [
+      | inl more ↦ by_pick (λ x. x ≡ none) b r.root none (λ _. narrow more) (λ _. refl)
+      | inr few ↦ pick_false b _ _ (f few)
+    ]
 
 not_upper : (r : VaRange) (a : ℕ) → Narrow r → a + 2 ^ 48 < 2 ^ 64 → (let n = r.inputsize in pick (eqb (a / 2 ^ n) ((2 ^ 64 - 1) / 2 ^ n)) r.root none ≡ none)
 not_upper r a narrow h =

@@ -1,8 +1,9 @@
 -- For the contracts of code: what its words stand for, and the stages that an access may be called with.
 -- Assumes nothing.
-use Rattle.std.specs.Prelude.{◌≡◌, Bool, true, false, not, ◌&&◌, ◌||◌, ℕ, suc, ◌+◌, ◌-◌, ◌*◌, ◌/◌, ◌%◌, ◌^◌, ◌<◌, eqb}
-use Rattle.bits.specs.Bits.{pick, field}
-use Rattle.reads.specs.Program.{Outcome, reached, stopped}
+use Rattle.std.specs.Prelude.{◌≡◌, Bool, true, false, not, ◌&&◌, ◌||◌, ℕ, suc, ◌-◌, ◌/◌, ◌%◌, ◌^◌, eqb, Ok, Err, Result, Option, List}
+use Rattle.bits.specs.Bits.{pick}
+use Rattle.reads.specs.Program.{Request, Outcome, reached, stopped}
+use Rattle.reads.specs.Ran.{Ran}
 use Rattle.access.specs.Access.{is_fetch, unaligned}
 use Rattle.access.specs.declared.Access.{Access}
 use Rattle.attributes.specs.Attributes.{class_of, settled_part, stage1_attributes, stage2_attributes, stage1_off_attributes, combine}
@@ -12,10 +13,8 @@ use Rattle.descriptor.specs.Turn.{imposed}
 use Rattle.walk.specs.Checks.{misaligned}
 use Rattle.walk.specs.Stage2.{uncached2}
 use Rattle.walk.specs.Ends.{outcome, verdict}
-use Rattle.walk.specs.Calls.{Within, Starts, root_of}
 use Rattle.descriptor.specs.declared.entry.FaultKind.TheVariants as F
-use Rattle.walk.specs.declared.table.Root.{Root}
-use Rattle.walk.specs.declared.table.Root.TheVariants.{Unusable}
+use Rattle.walk.specs.Root.{Root, unusable}
 use Rattle.walk.specs.declared.stop.Stage.{Stage}
 use Rattle.walk.specs.declared.stop.Stage.TheVariants.{One, Two}
 use Rattle.walk.specs.declared.stop.Stop.{Stop}
@@ -24,22 +23,18 @@ use Rattle.walk.specs.declared.end.Ending.{Ending}
 use Rattle.walk.specs.declared.end.Ending.TheVariants as E
 use Rattle.walk.specs.declared.end.End.{End}
 use Rattle.walk.specs.declared.stage2.Stage2.{Stage2}
-use Rattle.stages.specs.Stage1.{top, root1_at, uncached1}
-use Rattle.stages.specs.Ranges.{bounds_of, Narrow}
+use Rattle.stages.specs.Stage1.{top, place1, uncached1}
+use Rattle.stages.specs.Stages.{finish}
 use Rattle.stages.specs.declared.stage1.Stage1.{Stage1}
-use Rattle.stages.specs.declared.stage1.Prepared1.{Prepared1}
-use Rattle.stages.specs.declared.stage1.Opening.{Opening}
 use Rattle.stages.specs.declared.both.Translation.{Translation}
-use Rattle.stages.specs.declared.both.Reached.{Reached}
-use Rattle.stages.specs.declared.both.Reached.TheVariants as R
 use Rattle.stages.specs.declared.both.By.{By}
 use Rattle.stages.specs.declared.both.By.TheVariants.{First, OnWalk, Second}
 use Rattle.stages.specs.declared.both.Arrival.{Arrival}
-use Rattle.stages.specs.declared.both.Memory.{Memory}
+use Rattle.stages.specs.declared.both.AttributeControls.{AttributeControls}
 
-unfoldable pub outcome_of : Reached → Outcome Stop Translation
-outcome_of (R.To t) = reached t
-outcome_of (R.Stopped e) = stopped e
+unfoldable pub outcome_of : Result Translation Stop → Outcome Stop Translation
+outcome_of (Ok t) = reached t
+outcome_of (Err e) = stopped e
 
 -- ---- an access in plain words
 
@@ -83,9 +78,9 @@ at_output ipa left1 word1 count = record { by = Second; end = as_it_is ipa count
 
 -- stages of which only what attributes go by is told
 abbrev nowhere : Root
-nowhere = Unusable F.Translation 0
+nowhere = unusable F.Translation 0
 
-abbrev pub memory1 : Memory → Stage1
+abbrev pub memory1 : AttributeControls → Stage1
 memory1 m =
     record {
       on = m.on1;
@@ -101,12 +96,19 @@ memory1 m =
       wxn = false;
     }
 
-abbrev pub memory2 : Memory → Stage2
+abbrev pub memory2 : AttributeControls → Stage2
 memory2 m = record { on = m.on2; inputsize = 0; root = nowhere; cd = m.cd; id = m.id; ptw = false }
 
 -- what attributes go by in two stages
-abbrev pub memory_of : Stage1 → Stage2 → Memory
+abbrev pub memory_of : Stage1 → Stage2 → AttributeControls
 memory_of s1 s2 = record { on1 = s1.on; dc = s1.dc; mair = s1.mair; c = s1.c; i = s1.i; on2 = s2.on; cd = s2.cd; id = s2.id }
+
+-- ---- stage 2
+
+-- what it gives of a stage 1 descriptor's address, and of stage 1's output
+pub record Seconded (m : Request → Option ℕ) (s : Stage2) (a : Access) (w : Bool) (ipa : ℕ) (log : List ℕ) (count : ℕ) (r : End) (log' : List ℕ) : Type 0 where
+  pub placed : w ≡ true → Ran m (place1 s a ipa) log count (outcome (Two ipa true) r.address r) r.count log'
+  pub finished : w ≡ false → (o : Output) → o.address ≡ ipa → Ran m (finish s a o) log count (outcome (Two ipa false) (finished_at s a o r) r) r.count log'
 
 -- ---- stage 1
 
@@ -122,33 +124,3 @@ off_device s a = not s.dc && not (is_fetch a)
 abbrev pub off_ending : Stage1 → Access → Ending
 off_ending s a =
     pick (eqb (a.address % 2 ^ suc (top s a.address) / 2 ^ s.pamax) 0) (pick (off_device s a && unaligned a) E.Misaligned E.Passed) E.AddressSize
-
--- the stage that words stand for
-abbrev pub stage1_of : Prepared1 → Stage1
-stage1_of p =
-    record {
-      on = p.on;
-      pamax = p.pamax;
-      dc = p.dc;
-      tbi0 = p.bounds.tbi0;
-      tbi1 = p.bounds.tbi1;
-      lower = record { inputsize = p.size0; root = root_of p.lower };
-      upper = record { inputsize = p.size1; root = root_of p.upper };
-      mair = p.mair;
-      c = p.c;
-      i = p.i;
-      wxn = p.wxn;
-    }
-
--- stage 1's words go together
-pub record Sound1 (p : Prepared1) : Type 0 where
-  pub bounds : p.bounds ≡ bounds_of (stage1_of p)
-  pub pamax : p.pamax < 64
-  pub lower : p.on ≡ true → Starts p.lower (root_of p.lower) × Narrow (stage1_of p).lower
-  pub upper : p.on ≡ true → Starts p.upper (root_of p.upper) × Narrow (stage1_of p).upper
-
--- where an access begins
-pub data Opens (p : Prepared1) (a : Access) (o : Opening) : Type 0 where
-  walks : p.on ≡ true → o.walking ≡ true → o.ending ≡ o.start.ending → o.level ≡ o.start.level → Starts o.start (root1_at (stage1_of p) a.address) →
-      o.ipa ≡ o.start.table.base + 8 * field a.address o.start.shift o.start.table.bits → Opens p a o
-  passes : p.on ≡ false → o.walking ≡ false → o.ending ≡ off_ending (stage1_of p) a → o.level ≡ 0 → Within o.start → o.ipa ≡ a.address % 2 ^ 48 → Opens p a o

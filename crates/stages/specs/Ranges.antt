@@ -1,11 +1,10 @@
 -- Stage 1's VA range of an address, by bit 55 and one comparison.
 -- With such stages this range's root is the one of Stage1.antt (proofs/Ranges.antt).
 -- Assumes nothing.
-use Rattle.std.specs.Prelude.{◌≡◌, Bool, ℕ, ◌-◌, ◌*◌, ◌/◌, ◌%◌, ◌^◌, ◌≤◌, leb, ltb}
+use Rattle.std.specs.Prelude.{◌≡◌, Bool, ℕ, ◌-◌, ◌*◌, ◌/◌, ◌%◌, ◌^◌, ◌<◌, leb, ltb}
 use Rattle.bits.specs.Bits.{pick, bit}
 use Rattle.descriptor.specs.declared.entry.FaultKind.TheVariants.{Translation}
-use Rattle.walk.specs.declared.table.Root.{Root}
-use Rattle.walk.specs.declared.table.Root.TheVariants.{Unusable}
+use Rattle.walk.specs.Root.{Root, unusable}
 use Rattle.stages.specs.declared.stage1.VaRange.{VaRange}
 use Rattle.stages.specs.declared.stage1.Stage1.{Stage1}
 use Rattle.stages.specs.declared.range.Range.{Range}
@@ -50,9 +49,8 @@ range_at b a =
 unfoldable pub root_at : Stage1 → Range → Root
 root_at s Lower = s.lower.root
 root_at s Upper = s.upper.root
-root_at s Neither = Unusable Translation 0
+root_at s Neither = unusable Translation 0
 
 -- a VA range whose input size is at most 48, or that is disabled, whatever its size says
-pub data Narrow (r : VaRange) : Type 0 where
-  limited : r.inputsize ≤ 48 → Narrow r
-  disabled : r.root ≡ Unusable Translation 0 → Narrow r
+abbrev pub Narrow : VaRange → Type 0
+Narrow r = 48 < r.inputsize → r.root ≡ unusable Translation 0

@@ -1,7 +1,7 @@
 -- Stage 1 of an access, from what registers say of both stages (01, Walk, Attributes, Checks; the order is Arm's).
 -- Arm's pseudocode has it as AArch64.FirstStageTranslate.
 -- Assumes nothing.
-use Rattle.std.specs.Prelude.{Bool, true, not, ◌&&◌, ◌||◌, ℕ, suc, ◌-◌, ◌/◌, ◌%◌, ◌^◌, eqb}
+use Rattle.std.specs.Prelude.{Bool, true, not, ◌&&◌, ◌||◌, ℕ, suc, ◌-◌, ◌/◌, ◌%◌, ◌^◌, eqb, Ok}
 use Rattle.bits.specs.Bits.{pick, bit}
 use Rattle.reads.specs.Program.{done, bind}
 use Rattle.access.specs.Access.{is_fetch}
@@ -15,11 +15,9 @@ use Rattle.walk.specs.Stage2.{translate2}
 use Rattle.walk.specs.declared.stop.Stage.TheVariants.{One}
 use Rattle.walk.specs.declared.stop.Stop.TheVariants.{Misaligned}
 use Rattle.walk.specs.declared.table.Leaf.{Leaf}
-use Rattle.walk.specs.declared.table.Root.{Root}
-use Rattle.walk.specs.declared.table.Root.TheVariants.{Unusable}
+use Rattle.walk.specs.Root.{Root, unusable}
 use Rattle.walk.specs.declared.check.Output.{Output}
-use Rattle.walk.specs.declared.check.Checked.{Checked}
-use Rattle.walk.specs.declared.check.Checked.TheVariants.{Passed}
+use Rattle.walk.specs.Checked.{Checked}
 use Rattle.walk.specs.declared.stage2.Stage2.{Stage2}
 use Rattle.stages.specs.declared.stage1.VaRange.{VaRange}
 use Rattle.stages.specs.declared.stage1.Stage1.{Stage1}
@@ -48,7 +46,7 @@ in_range s a =
 
 -- the root for an address
 abbrev pub root1_at : Stage1 → ℕ → Root
-root1_at s a = pick (in_range s a) (va_range s a).root (Unusable F.Translation 0)
+root1_at s a = pick (in_range s a) (va_range s a).root (unusable F.Translation 0)
 
 -- C counts for data, I for a fetch (01, Attributes, stage 1)
 abbrev pub uncached1 : Stage1 → Access → Bool
@@ -73,7 +71,7 @@ stage1_off s a =
     let attrs = stage1_off_attributes s.dc (is_fetch a) s.i in
     unless (not (eqb (a.address % 2 ^ suc (top s a.address) / 2 ^ s.pamax) 0)) (fault F.AddressSize One 0)
     (unless (misaligned a (is_device attrs.memory)) (Misaligned One)
-    (Passed (record { address = a.address % 2 ^ 48; attributes = attrs; level = 0 })))
+    (Ok (record { address = a.address % 2 ^ 48; attributes = attrs; level = 0 })))
 
 -- from the root for this address
 unfoldable pub translate1 : Stage1 → Root → Stage2 → Access → Reading Output

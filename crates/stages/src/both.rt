@@ -2,26 +2,26 @@
 ghost use Rattle.std.specs.Prelude.{◌≡◌, true, false, ◌+◌, ◌≤◌, ◌^◌, length};
 ghost use Rattle.bits.specs.Bits.{pick};
 ghost use Rattle.reads.specs.Ran.{Ran};
-ghost use Rattle.access.specs.Access.{listed_size};
-ghost use Rattle.capture.specs.Calls.{captured, Held};
-ghost use Rattle.walk.specs.Calls.{Sound2, stage2_of};
+ghost use Rattle.walk.specs.Prepared.{stage2_of};
 ghost use Rattle.walk.specs.Ends as Ends;
 ghost use Rattle.stages.specs.declared.both.By.TheVariants as Bys;
 ghost use Rattle.walk.specs.Stage2 as Seconds;
 ghost use Rattle.stages.specs.Stage1 as Definitions;
 ghost use Rattle.stages.specs.Stages as Stages;
+ghost use Rattle.stages.specs.Prepared.{stage1_of, Opens};
 ghost use Rattle.stages.specs.Calls as Calls;
 
+use crate::prepared::Prepared1;
 use crate::stage1;
-use crate::stage1::{Opening, Prepared1};
-use access::Access;
+use crate::stage1::Opening;
+use access::{Access, SizedAccess};
 use attributes::Attributes;
-use capture::Front;
+use descriptor::entry;
 use descriptor::entry::FaultKind;
-use descriptor::{entry, turn};
-use reads::Read;
+use descriptor::turn::Decoder;
+use reads::Memory;
 use walk::end::{End, Ending};
-use walk::stage2::Prepared2;
+use walk::prepared::Prepared2;
 use walk::stop::{Missing, Open, Stage, Stop};
 use walk::{end, stage2, stop};
 
@@ -34,13 +34,6 @@ pub struct Translation {
     pub level2: u64,
 }
 
-// How an access ends.
-#[derive(Clone, Copy)]
-pub enum Reached {
-    To(Translation),
-    Stopped(Stop),
-}
-
 // Whose end it is: stage 1's, stage 2's of a stage 1 descriptor, or stage 2's of stage 1's output.
 #[derive(Clone, Copy)]
 pub enum By {
@@ -49,7 +42,7 @@ pub enum By {
     Second,
 }
 
-// The same in plain words.
+// How an access ends, in plain words.
 #[derive(Clone, Copy)]
 pub struct Arrival {
     pub by: By,
@@ -67,25 +60,6 @@ fn by_stage2(onwalk: bool) -> By
     if onwalk { By::OnWalk } else { By::Second }
 }
 
-// Stage 1's output as it is, where stage 2 is off.
-fn unplaced(ipa: u64, left1: u64, word1: u64, count: usize) -> Arrival
-    ensures { result ≡ Calls.at_output ipa left1 word1 count }
-{
-    Arrival {
-        by: By::Second,
-        end: End {
-            ending: Ending::Passed,
-            address: ipa,
-            word: 0,
-            level: 0,
-            count,
-        },
-        ipa,
-        left1,
-        word1,
-    }
-}
-
 // An end at stage 1.
 fn first(end: End) -> Arrival
     ensures { result ≡ Calls.at_first end }
@@ -99,65 +73,72 @@ fn first(end: End) -> Arrival
     }
 }
 
-// From where it begins. Each turn takes one address through stage 2: that of a stage 1 descriptor, and at last that of stage 1's output.
-fn walk1(
-    file: &[u8],
-    front: Front,
-    parts: &[u64],
+// What stage 2 makes of an IPA: of a stage 1 descriptor's address, on a walk, and of stage 1's output. Where it is off the IPA is the address.
+fn second<M: Memory>(
+    memory: &M,
+    q: Prepared2,
+    a: SizedAccess,
+    walking: bool,
+    ipa: u64,
+    log: &mut [u64],
+    count: usize,
+) -> End
+    requires { (count + 4 ≤ length log.old) }
+    ensures { Calls.Seconded (M.finds memory.now) (stage2_of q) a.access walking ipa log.old count result log.new × (result.count ≤ count + 4) }
+{
+    let on = q.on;
+    if on {
+        stage2::translate2(memory, q, a, walking, ipa, log, count)
+    } else {
+        End {
+            ending: Ending::Passed,
+            address: ipa,
+            word: 0,
+            level: 0,
+            count,
+        }
+    }
+}
+
+// From where it begins. Each turn takes one address through stage 2: that of a stage 1 descriptor, and at last that of stage 1's output. A
+// loop until one ends it: a `for` over levels would have an end past the last level, which no walk reaches.
+fn walk1<M: Memory>(
+    memory: &M,
     p: Prepared1,
     q: Prepared2,
-    a: Access,
+    a: SizedAccess,
     o: Opening,
     log: &mut [u64],
 ) -> Arrival
-    requires { Sound2 q × (listed_size a.size ≡ true) × Held front parts.now file.now × (24 ≤ length log.old) × Calls.Opens p a o × (Ends.passed o.ending ≡ true) }
-    ensures { Ran (captured front parts.now file.now) (Stages.access (Calls.stage1_of p) (stage2_of q) a) log.old 0 (Calls.arrived (Calls.stage1_of p) (stage2_of q) a result) result.end.count log.new × (result.end.count ≤ 24) }
+    requires { (24 ≤ length log.old) × Opens p a.access o × (Ends.passed o.ending ≡ true) }
+    ensures { Ran (M.finds memory.now) (Stages.access (stage1_of p) (stage2_of q) a.access) log.old 0 (Calls.arrived (stage1_of p) (stage2_of q) a.access result) result.end.count log.new × (result.end.count ≤ 24) }
 {
-    let input = a.address;
-    let on = q.on;
+    let input = a.access.address;
     let start = o.start;
-    let masks = start.masks;
-    let table = start.table;
-    let g = table.geometry;
-    let stride = g.stride;
-    let levels = table.levels;
+    let stride = start.geometry.stride;
     let mut walking = o.walking;
-    let mut left = levels - 1;
+    let mut left = start.levels - 1;
     let mut shift = start.shift;
     let mut ipa = o.ipa;
     let mut tables = 0;
     let mut word1 = 0;
     let mut k = 0;
     loop {
-        let mut at = ipa;
-        if on {
-            let r = stage2::translate2(file, front, parts, q, a, walking, ipa, log, k);
-            let ending = r.ending;
-            if !end::passed(ending) {
-                return Arrival {
-                    by: by_stage2(walking),
-                    end: r,
-                    ipa,
-                    left1: left,
-                    word1,
-                };
-            }
-            if !walking {
-                return Arrival {
-                    by: By::Second,
-                    end: r,
-                    ipa,
-                    left1: left,
-                    word1,
-                };
-            }
-            at = r.address;
-            k = r.count;
-        } else if !walking {
-            return unplaced(ipa, left, word1, k);
+        let r = second(memory, q, a, walking, ipa, log, k);
+        let ending = r.ending;
+        if !walking | !end::passed(ending) {
+            return Arrival {
+                by: by_stage2(walking),
+                end: r,
+                ipa,
+                left1: left,
+                word1,
+            };
         }
-        match capture::read_logged(file, front, parts, at, log, k) {
-            Read::Absent => {
+        let at = r.address;
+        k = r.count;
+        match memory.read_logged(at, log, k) {
+            None => {
                 return first(End {
                     ending: Ending::Absent,
                     address: at,
@@ -166,27 +147,26 @@ fn walk1(
                     count: k,
                 });
             }
-            Read::Word(x) => {
+            Some(x) => {
                 k += 1;
-                let turn = turn::turn(g, masks, left, x);
+                let decoder = Decoder {
+                    geometry: start.geometry,
+                    masks: start.masks,
+                };
+                let turn = decoder.turn(left, x);
                 if end::leads_down(turn) {
                     left -= 1;
                     shift -= stride;
                     tables = tables | x;
-                    ipa = turn::next_entry(g, masks, x, input, shift);
+                    ipa = decoder.next_entry(x, input, shift);
                 } else {
                     let ended = stage1::at_entry(p, a, tables, turn, x);
-                    if end::passed(ended) {
-                        let output = entry::output_address(x, shift, input);
-                        if !on {
-                            return unplaced(output, left, x, k);
-                        }
-                        walking = false;
-                        ipa = output;
-                        word1 = x;
-                    } else {
+                    if !end::passed(ended) {
                         return first(end::stopped(ended, 3 - left, k));
                     }
+                    walking = false;
+                    ipa = entry::output_address(x, shift, input);
+                    word1 = x;
                 }
             }
         }
@@ -194,23 +174,21 @@ fn walk1(
 }
 
 // An access, from prepared stages.
-pub fn access(
-    file: &[u8],
-    front: Front,
-    parts: &[u64],
+pub fn access<M: Memory>(
+    memory: &M,
     p: Prepared1,
     q: Prepared2,
-    a: Access,
+    a: SizedAccess,
     log: &mut [u64],
 ) -> Arrival
-    requires { Calls.Sound1 p × Sound2 q × (listed_size a.size ≡ true) × Held front parts.now file.now × (24 ≤ length log.old) }
-    ensures { Ran (captured front parts.now file.now) (Stages.access (Calls.stage1_of p) (stage2_of q) a) log.old 0 (Calls.arrived (Calls.stage1_of p) (stage2_of q) a result) result.end.count log.new × (result.end.count ≤ 24) }
+    requires { (24 ≤ length log.old) }
+    ensures { Ran (M.finds memory.now) (Stages.access (stage1_of p) (stage2_of q) a.access) log.old 0 (Calls.arrived (stage1_of p) (stage2_of q) a.access result) result.end.count log.new × (result.end.count ≤ 24) }
 {
     let o = stage1::opening_of(p, a);
     let ending = o.ending;
     let level = o.level;
     if end::passed(ending) {
-        walk1(file, front, parts, p, q, a, o, log)
+        walk1(memory, p, q, a, o, log)
     } else {
         first(end::stopped(ending, level, 0))
     }
@@ -218,7 +196,7 @@ pub fn access(
 
 // What attributes go by, beside the descriptors of leaves.
 #[derive(Clone, Copy)]
-pub struct Memory {
+pub struct AttributeControls {
     // Stage 1's, with HCR_EL2.DC, SCTLR_EL1.C and I.
     pub on1: bool,
     pub dc: bool,
@@ -232,25 +210,25 @@ pub struct Memory {
 }
 
 // C counts for data, I for a fetch.
-fn uncached1(m: Memory, a: Access) -> bool
+fn uncached1(m: AttributeControls, a: Access) -> bool
     ensures { result ≡ Definitions.uncached1 (Calls.memory1 m) a }
 {
     let c = m.c;
     let i = m.i;
-    if access::is_fetch(a) { !i } else { !c }
+    if a.is_fetch() { !i } else { !c }
 }
 
 // CD counts for data, ID for a fetch.
-fn uncached2(m: Memory, a: Access) -> bool
+fn uncached2(m: AttributeControls, a: Access) -> bool
     ensures { result ≡ Seconds.uncached2 (Calls.memory2 m) a false }
 {
     let cd = m.cd;
     let id = m.id;
-    if access::is_fetch(a) { id } else { cd }
+    if a.is_fetch() { id } else { cd }
 }
 
 // Stage 1's attributes, by its leaf's descriptor.
-fn attributes1(m: Memory, a: Access, word: u64) -> Attributes
+fn attributes1(m: AttributeControls, a: Access, word: u64) -> Attributes
     ensures { result ≡ Calls.attributes1 (Calls.memory1 m) a word }
 {
     let on = m.on1;
@@ -259,12 +237,12 @@ fn attributes1(m: Memory, a: Access, word: u64) -> Attributes
     if on {
         attributes::settled_part(attributes::stage1_attributes(m.mair, uncached1(m, a), word))
     } else {
-        attributes::stage1_off_attributes(dc, access::is_fetch(a), i)
+        attributes::stage1_off_attributes(dc, a.is_fetch(), i)
     }
 }
 
 // With stage 2's, by its leaf's descriptor.
-fn combined(m: Memory, a: Access, one: Attributes, word: u64) -> Attributes
+fn combined(m: AttributeControls, a: Access, one: Attributes, word: u64) -> Attributes
     ensures { result ≡ Calls.combined (Calls.memory2 m) a one word }
 {
     let on = m.on2;
@@ -309,7 +287,7 @@ fn stop_by(s: Stage, address: u64, level: u64, ending: Ending) -> Stop
 }
 
 // The level of stage 1's leaf. A stage that is off has level 0.
-fn level1(m: Memory, left: u64) -> u64
+fn level1(m: AttributeControls, left: u64) -> u64
     ensures { result ≡ Calls.leaf_level (Calls.memory1 m) left }
 {
     let on = m.on1;
@@ -321,7 +299,7 @@ fn level1(m: Memory, left: u64) -> u64
 }
 
 // How an access ends, from its plain words. Attributes are decoded here, once.
-pub fn reached_by(m: Memory, a: Access, r: Arrival) -> Reached
+pub fn reached_by(m: AttributeControls, a: Access, r: Arrival) -> Result<Translation, Stop>
     ensures { Calls.outcome_of result ≡ Calls.arrived (Calls.memory1 m) (Calls.memory2 m) a r }
 {
     let end = r.end;
@@ -329,13 +307,13 @@ pub fn reached_by(m: Memory, a: Access, r: Arrival) -> Reached
     let address = end.address;
     let level = end.level;
     if end::passed(ending) {
-        Reached::To(Translation {
+        Ok(Translation {
             address,
             attributes: combined(m, a, attributes1(m, a, r.word1), end.word),
             level1: level1(m, r.left1),
             level2: level,
         })
     } else {
-        Reached::Stopped(stop_by(stage_of(r), address, level, ending))
+        Err(stop_by(stage_of(r), address, level, ending))
     }
 }

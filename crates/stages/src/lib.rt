@@ -2,5 +2,6 @@
 #![tactic(auto)]
 
 pub mod both;
+pub mod prepared;
 pub mod range;
 pub mod stage1;

@@ -11,7 +11,7 @@ use Rattle.bits.specs.Bits.{pick}
 use Rattle.reads.specs.Program.{Request, done, note, bind, run, reads, ends, nil, cons}
 use Rattle.descriptor.specs.Entry.{decode}
 use Rattle.access.specs.declared.Access.{Access}
-use Rattle.reads.specs.declared.Read.{Read}
+use Rattle.std.specs.Prelude.{Option, Ok, Err}
 use Rattle.descriptor.specs.declared.entry.Geometry.{Geometry}
 use Rattle.descriptor.specs.declared.entry.Entry.{Entry}
 use Rattle.descriptor.specs.declared.entry.Entry.TheVariants as E
@@ -22,10 +22,8 @@ use Rattle.walk.specs.declared.stop.Stage.{Stage}
 use Rattle.walk.specs.declared.stop.Stage.TheVariants.{Two}
 use Rattle.walk.specs.declared.stop.Stop.{Stop}
 use Rattle.walk.specs.declared.table.Leaf.{Leaf}
-use Rattle.walk.specs.declared.table.Root.{Root}
-use Rattle.walk.specs.declared.table.Root.TheVariants.{Unusable, Usable}
-use Rattle.walk.specs.declared.check.Checked.{Checked}
-use Rattle.walk.specs.declared.check.Checked.TheVariants.{Passed, Stopped}
+use Rattle.walk.specs.Root.{Root, unusable}
+use Rattle.walk.specs.Checked.{Checked}
 use Rattle.walk.specs.declared.stage2.Stage2.{Stage2}
 use Rattle.walk.specs.Walk.{Reading, if_present, follow, walk, walk_from}
 use Rattle.walk.specs.Checks.{give}
@@ -33,8 +31,8 @@ use Rattle.walk.specs.Stage2.{root2_at, check2, translate2}
 
 -- a usable root has n levels
 abbrev pub HasLevels : ℕ → Root → Type 0
-HasLevels n (Unusable kind level) = Unit {0}
-HasLevels n (Usable t) = t.levels ≡ n
+HasLevels n (Err u) = Unit {0}
+HasLevels n (Ok t) = t.levels ≡ n
 
 -- a level above 3 - 0 is not 3
 above_three : (n : ℕ) → AllThree ((3 - suc n) ∷ []) → ⊥
@@ -44,7 +42,7 @@ above_three n (cons e h) = omega arith
 pub pick_levels : (n : ℕ) (b : Bool) (p q : Root) → HasLevels n p → HasLevels n q → HasLevels n (pick b p q)
 pick_levels n b p q hp hq = by_pick (HasLevels n) b p q (λ e. hp) (λ e. hq)
 
-module _ (m : Request → Read) where
+module _ (m : Request → Option ℕ) where
   -- ---- one walk, of which each descriptor takes c reads to place
 
   tight_leaf : (n c : ℕ) (l : Leaf) → Tight {E = Stop} m (n * suc c) (note (3 - n) (done l))
@@ -72,8 +70,8 @@ module _ (m : Request → Read) where
 
     pub tight_from : (s : Stage) (input n : ℕ) (root : Root) → HasLevels n root → Tight m (n * suc c) (walk_from place s input root)
     unfolding walk_from
-    tight_from s input n (Unusable kind level) h = tight_stop m _ _
-    tight_from s input n (Usable t) h = subst (λ z. Tight m (z * suc c) (walk_from place s input (Usable t))) h (tight_walk _ _ _ _ _ _ _)
+    tight_from s input n (Err u) h = tight_stop m _ _
+    tight_from s input n (Ok t) h = subst (λ z. Tight m (z * suc c) (walk_from place s input (Ok t))) h (tight_walk _ _ _ _ _ _ _)
 
   -- ---- steps that read nothing
 
@@ -82,8 +80,8 @@ module _ (m : Request → Read) where
 
   pub tight_give : (c : Checked) → Tight m 0 (give c)
   unfolding give
-  tight_give (Passed o) = tight_done m o
-  tight_give (Stopped e) = tight_stop m 0 e
+  tight_give (Ok o) = tight_done m o
+  tight_give (Err e) = tight_stop m 0 e
 
   -- ---- the stages, stage 2 with n2 levels
 
@@ -93,5 +91,5 @@ module _ (m : Request → Read) where
     tight_translate2 w ipa =
         tight_then n2 _ _
         (subst (λ z. Tight m z (walk_from done (Two ipa w) ipa (root2_at s ipa))) (mul-one n2)
-        (tight_from done 0 (tight_done m) (Two ipa w) ipa n2 (root2_at s ipa) (pick_levels n2 _ (Unusable _ _) s.root tt levels)))
+        (tight_from done 0 (tight_done m) (Two ipa w) ipa n2 (root2_at s ipa) (pick_levels n2 _ (unusable _ _) s.root tt levels)))
         (λ l. tight_give (check2 s a w ipa l))

@@ -9,8 +9,7 @@ use lib.ListN.{length, set, length-set}
 use Rattle.bits.specs.Bits.{field, upper}
 use Rattle.reads.specs.Program.{Request, Outcome, reached, stopped, bind, ask}
 use Rattle.reads.specs.Ran.{Ran}
-use Rattle.reads.specs.declared.Read.{Read}
-use Rattle.reads.specs.declared.Read.TheVariants.{Absent, Word}
+use Rattle.std.specs.Prelude.{Option, Some, None, Ok}
 use Rattle.reads.proofs.Ran.{ran_done, ran_stop, ran_note, ran_absent, ran_word, ran_then, ran_stopped, ran_length}
 use Rattle.descriptor.specs.Entry.{shift, decode, nothing}
 use Rattle.descriptor.specs.Turn.{turn_of}
@@ -26,7 +25,6 @@ use Rattle.walk.specs.declared.stop.Stage.{Stage}
 use Rattle.walk.specs.declared.stop.Stop.{Stop}
 use Rattle.walk.specs.declared.table.Leaf.{Leaf}
 use Rattle.walk.specs.declared.table.Table.{Table}
-use Rattle.walk.specs.declared.table.Root.TheVariants.{Usable}
 
 -- a turn that leads down, or to a leaf
 pub is_down : (t : Turn) → leads_down t ≡ true → t ≡ T.Down
@@ -51,7 +49,7 @@ is_leaf_lem T.Unsettled e = absurd (true≢false (sym e))
 abbrev pub leaf_at : Geometry → (n x : ℕ) → Inherited → Leaf
 leaf_at g n x h = record { word = x; shift = shift g n; level = 3 - n; inherited = h }
 
-module _ (m : Request → Read) (place : ℕ → Reading ℕ) (g : Geometry) (s : Stage) (input : ℕ) where
+module _ (m : Request → Option ℕ) (place : ℕ → Reading ℕ) (g : Geometry) (s : Stage) (input : ℕ) where
   -- a read by this stage
   abbrev pub req : ℕ → Request
   req at = record { reader = reader_of s; address = at }
@@ -74,28 +72,28 @@ module _ (m : Request → Read) (place : ℕ → Reading ℕ) (g : Geometry) (s 
 
   -- and so does a walk from a table
   module _ (t : Table) (geometry : g ≡ t.geometry) (some : 1 ≤ t.levels) where
-    pub from_enters : walk_from place s input (Usable t) ≡ entering (t.levels - 1) (entry_address g (t.levels - 1) t.bits t.base input) nothing
+    pub from_enters : walk_from place s input (Ok t) ≡ entering (t.levels - 1) (entry_address g (t.levels - 1) t.bits t.base input) nothing
     unfolding walk_from
     from_enters =
         let e : t.levels ≡ suc (t.levels - 1) = omega (arith, some) in
         rw (← geometry) (ap (λ k. walk place g s input k t.bits t.base nothing) e ∙ walk_enters (t.levels - 1) t.bits t.base nothing)
 
     module _ {A : Type 0} (f : Leaf → Reading A) {at : ℕ} (first : at ≡ entry_address g (t.levels - 1) t.bits t.base input) {log l : List ℕ} {k end : ℕ} where
-      pub from_stopped : {e : Stop} → Ran m (entering (t.levels - 1) at nothing) log k (stopped e) end l → Ran m (bind (walk_from place s input (Usable t)) f) log k (stopped e) end l
+      pub from_stopped : {e : Stop} → Ran m (entering (t.levels - 1) at nothing) log k (stopped e) end l → Ran m (bind (walk_from place s input (Ok t)) f) log k (stopped e) end l
       from_stopped r = ran_stopped m f (rw (from_enters, ← first) r)
 
       pub from_leaf : {x : Leaf} {o : Outcome Stop A} {end₂ : ℕ} {l₂ : List ℕ} → Ran m (entering (t.levels - 1) at nothing) log k (reached x) end l → Ran m (f x) l end o end₂ l₂ →
-          Ran m (bind (walk_from place s input (Usable t)) f) log k o end₂ l₂
+          Ran m (bind (walk_from place s input (Ok t)) f) log k o end₂ l₂
       from_leaf r q = ran_then m f (rw (from_enters, ← first) r) q
 
   -- ---- by what is read
 
   module _ (n : ℕ) (h : Inherited) {at k : ℕ} {log : List ℕ} where
-    here_absent : m (req at) ≡ Absent → Ran m (here n at h) log k (stopped (absent at s (3 - n))) k log
+    here_absent : m (req at) ≡ None → Ran m (here n at h) log k (stopped (absent at s (3 - n))) k log
     unfolding if_present
     here_absent e = ran_absent m e (ran_stop m _ _ _)
 
-    module _ {x : ℕ} (found : m (req at) ≡ Word x) where
+    module _ {x : ℕ} (found : m (req at) ≡ Some x) where
       here_leaf : decode g n x ≡ E.Final → Ran m (here n at h) log k (reached (leaf_at g n x h)) (k + 1) (set log k at)
       unfolding if_present follow
       here_leaf e = ran_word m found (rw e (ran_note m (ran_done m _ _ _)))
@@ -119,7 +117,7 @@ module _ (m : Request → Read) (place : ℕ → Reading ℕ) (g : Geometry) (s 
 -- ---- a loop over the levels
 
 -- at an entry with n levels below it, which is still to be placed: whatever finishes the walk from here finishes the whole
-pub record Walking (m : Request → Read) (place : ℕ → Reading ℕ) (g : Geometry) (s : Stage) (input : ℕ) (whole : Reading Leaf)
+pub record Walking (m : Request → Option ℕ) (place : ℕ → Reading ℕ) (g : Geometry) (s : Stage) (input : ℕ) (whole : Reading Leaf)
     (log₀ : List ℕ) (count : ℕ) (log : List ℕ) (k n t address : ℕ) (h : Inherited) : Type 0 where
   pub few : n ≤ 3
   pub shifted : t ≡ shift g n
@@ -128,9 +126,9 @@ pub record Walking (m : Request → Read) (place : ℕ → Reading ℕ) (g : Geo
   pub rest : {o : Outcome Stop Leaf} {end : ℕ} {l : List ℕ} → Ran m (entering m place g s input n address h) log k o end l → Ran m whole log₀ count o end l
 
 -- one level down
-module _ {m : Request → Read} {place : ℕ → Reading ℕ} {g : Geometry} {s : Stage} {input : ℕ} {whole : Reading Leaf}
+module _ {m : Request → Option ℕ} {place : ℕ → Reading ℕ} {g : Geometry} {s : Stage} {input : ℕ} {whole : Reading Leaf}
     {log₀ : List ℕ} {count : ℕ} {log : List ℕ} {k t address : ℕ} {h : Inherited}
-    {at k₁ x : ℕ} {log₁ : List ℕ} (placed : Ran m (place address) log k (reached at) k₁ log₁) (found : m (req m place g s input at) ≡ Word x) where
+    {at k₁ x : ℕ} {log₁ : List ℕ} (placed : Ran m (place address) log k (reached at) k₁ log₁) (found : m (req m place g s input at) ≡ Some x) where
   down_from : (n : ℕ) → 0 < n → Walking m place g s input whole log₀ count log k n t address h → decode g n x ≡ E.Next (upper x g.grainsize) →
       Walking m place g s input whole log₀ count (set log₁ k₁ at) (k₁ + 1) (n - 1) (t - g.stride) (upper x g.grainsize + 8 * field input (t - g.stride) g.stride) (inherit_at s h x)
   down_from zero more w next = absurd (omega arith)
@@ -146,17 +144,17 @@ module _ {m : Request → Read} {place : ℕ → Reading ℕ} {g : Geometry} {s 
         rest = λ r. w.rest (ran_then m _ placed (here_next m place g s input (suc n) h found next (rw (walk_enters m place g s input n g.stride (upper x g.grainsize) (inherit_at s h x)) r)));
       })
 
-module _ {m : Request → Read} {place : ℕ → Reading ℕ} {g : Geometry} {s : Stage} {input : ℕ} {whole : Reading Leaf}
+module _ {m : Request → Option ℕ} {place : ℕ → Reading ℕ} {g : Geometry} {s : Stage} {input : ℕ} {whole : Reading Leaf}
     {log₀ : List ℕ} {count : ℕ} {log : List ℕ} {k n t address : ℕ} {h : Inherited} (w : Walking m place g s input whole log₀ count log k n t address h) where
   -- the entry cannot be placed
   pub walking_stopped : {e : Stop} {end : ℕ} {log₁ : List ℕ} → Ran m (place address) log k (stopped e) end log₁ → Ran m whole log₀ count (stopped e) end log₁
   walking_stopped p = w.rest (ran_stopped m _ p)
 
   module _ {at k₁ : ℕ} {log₁ : List ℕ} (placed : Ran m (place address) log k (reached at) k₁ log₁) where
-    pub walking_absent : m (req m place g s input at) ≡ Absent → Ran m whole log₀ count (stopped (absent at s (3 - n))) k₁ log₁
+    pub walking_absent : m (req m place g s input at) ≡ None → Ran m whole log₀ count (stopped (absent at s (3 - n))) k₁ log₁
     walking_absent e = w.rest (ran_then m _ placed (here_absent m place g s input n h e))
 
-    module _ {x : ℕ} (found : m (req m place g s input at) ≡ Word x) where
+    module _ {x : ℕ} (found : m (req m place g s input at) ≡ Some x) where
       pub walking_leaf : is_leaf (turn_of (decode g n x)) ≡ true → Ran m whole log₀ count (reached (leaf_at g n x h)) (k₁ + 1) (set log₁ k₁ at)
       walking_leaf e = w.rest (ran_then m _ placed (here_leaf m place g s input n h found (turn_leaf g n x (is_leaf_lem _ e))))
 

@@ -7,8 +7,7 @@ use lib.Pow.{pow_pos}
 use Rattle.bits.specs.Bits.{field, upper}
 use Rattle.reads.specs.Program.{Request}
 use Rattle.descriptor.specs.Entry.{shift, descriptor_type, decode_as}
-use Rattle.reads.specs.declared.Read.{Read}
-use Rattle.reads.specs.declared.Read.TheVariants.{Absent, Word}
+use Rattle.std.specs.Prelude.{Option, Some, None}
 use Rattle.descriptor.specs.declared.entry.Geometry.{Geometry}
 use Rattle.descriptor.specs.declared.entry.DescriptorType.{DescriptorType}
 use Rattle.descriptor.specs.declared.entry.FaultKind.{FaultKind}
@@ -28,7 +27,7 @@ Says T L g n x DescriptorType.Leaf = L x (shift g n)
 
 -- P of each read and S of each stop, over the memory m.
 -- T k j table: a table of 2 ^ j entries with k levels, itself included. At n at: an entry with n levels below it lies at an address. L x t: a leaf.
-module _ (m : Request → Read) (P : Request → Type 0) (S : Stop → Type 0)
+module _ (m : Request → Option ℕ) (P : Request → Type 0) (S : Stop → Type 0)
     (T : ℕ → ℕ → ℕ → Type 0) (At : ℕ → ℕ → Type 0) (L : ℕ → ℕ → Type 0) (s : Stage)
     (faults : (kind : FaultKind) (level : ℕ) → S (fault kind s level)) (opens : (level : ℕ) → S (unsettled s level)) where
   abbrev pub IsLeaf : Leaf → Type 0
@@ -48,16 +47,16 @@ module _ (m : Request → Read) (P : Request → Type 0) (S : Stop → Type 0)
       (λ _. by_pick (λ e. H (follow g s n x h deeper e)) _ _ _ (λ _. on_stop (faults _ _))
       (λ _. by_pick (λ e. H (follow g s n x h deeper e)) _ _ _ (λ _. on_note (on_done says)) (λ _. on_stop (faults _ _))))
 
-  holds_present : (e : Stop) (k : ℕ → Reading Leaf) → S e → (f : Read) → ((x : ℕ) → f ≡ Word x → H (k x)) → H (if_present e k f)
+  holds_present : (e : Stop) (k : ℕ → Reading Leaf) → S e → (f : Option ℕ) → ((x : ℕ) → f ≡ Some x → H (k x)) → H (if_present e k f)
   unfolding if_present
-  holds_present e k stops Absent h = on_stop stops
-  holds_present e k stops (Word x) h = h x refl
+  holds_present e k stops None h = on_stop stops
+  holds_present e k stops (Some x) h = h x refl
 
   module _ (g : Geometry) (place : ℕ → Reading ℕ)
       (placed : (n j table i : ℕ) → T (suc n) j table → i < 2 ^ j → Holds m P S (At n) (place (table + 8 * i)))
       (reads : (n at : ℕ) → At n at → P (record { reader = reader_of s; address = at }))
       (gaps : (n at level : ℕ) → At n at → S (absent at s level))
-      (says : (n at x : ℕ) → At n at → m (record { reader = reader_of s; address = at }) ≡ Word x → Says T L g n x (descriptor_type g n x)) where
+      (says : (n at x : ℕ) → At n at → m (record { reader = reader_of s; address = at }) ≡ Some x → Says T L g n x (descriptor_type g n x)) where
     pub holds_walk : (input k j table : ℕ) (h : Inherited) → T k j table → H (walk place g s input k j table h)
     unfolding walk
     holds_walk input zero j table h t = on_stop (faults _ _)

@@ -1,6 +1,6 @@
 -- The checks after a walk, as far as both stages are alike (01, Checks; attributes come first, 01, Walk, descriptors).
 -- Assumes nothing.
-use Rattle.std.specs.Prelude.{Bool, ◌&&◌, ℕ}
+use Rattle.std.specs.Prelude.{Bool, ◌&&◌, ℕ, Ok, Err, Option, Some, None}
 use Rattle.bits.specs.Bits.{pick}
 use Rattle.reads.specs.Program.{done, stop}
 use Rattle.descriptor.specs.Entry.{output_address}
@@ -8,25 +8,22 @@ use Rattle.access.specs.Access.{unaligned}
 use Rattle.access.specs.declared.Access.{Access}
 use Rattle.descriptor.specs.declared.entry.FaultKind.TheVariants.{Permission}
 use Rattle.attributes.specs.declared.Attributes.{Attributes}
-use Rattle.attributes.specs.declared.Decoded.{Decoded}
-use Rattle.attributes.specs.declared.Decoded.TheVariants.{Settled, Unsettled}
 use Rattle.walk.specs.declared.stop.Stage.{Stage}
 use Rattle.walk.specs.declared.stop.Stop.{Stop}
 use Rattle.walk.specs.declared.stop.Stop.TheVariants.{Misaligned}
 use Rattle.walk.specs.declared.table.Leaf.{Leaf}
 use Rattle.walk.specs.declared.check.Output.{Output}
-use Rattle.walk.specs.declared.check.Checked.{Checked}
-use Rattle.walk.specs.declared.check.Checked.TheVariants.{Passed, Stopped}
+use Rattle.walk.specs.Checked.{Checked}
 use Rattle.walk.specs.Walk.{Reading, fault}
 
 -- stop where the test holds, else go on
 unfoldable pub unless : Bool → Stop → Checked → Checked
-unless b e c = pick b (Stopped e) c
+unless b e c = pick b (Err e) c
 
 -- go on with settled attributes
-unfoldable pub settled : Stop → (Attributes → Checked) → Decoded → Checked
-settled e k (Settled a) = k a
-settled e k Unsettled = Stopped e
+unfoldable pub settled : Stop → (Attributes → Checked) → Option Attributes → Checked
+settled e k (Some a) = k a
+settled e k None = Err e
 
 -- a data access to Device memory that is not a multiple of its size (01, Checks)
 abbrev pub misaligned : Access → (device : Bool) → Bool
@@ -37,9 +34,9 @@ unfoldable pub permitted : Stage → (input : ℕ) → Leaf → (misaligned deni
 permitted s input l misaligned denied attrs =
     unless misaligned (Misaligned s)
     (unless denied (fault Permission s l.level)
-    (Passed (record { address = output_address l.word l.shift input; attributes = attrs; level = l.level })))
+    (Ok (record { address = output_address l.word l.shift input; attributes = attrs; level = l.level })))
 
 -- checks read nothing
 unfoldable pub give : Checked → Reading Output
-give (Passed o) = done o
-give (Stopped e) = stop e
+give (Ok o) = done o
+give (Err e) = stop e

@@ -1,10 +1,10 @@
 -- For the contracts of code: what an end in plain words stands for.
 -- Assumes nothing.
-use Rattle.std.specs.Prelude.{Bool, true, false, ℕ}
+use Rattle.attributes.specs.declared.Attributes.{Attributes}
+use Rattle.std.specs.Prelude.{Bool, true, false, ℕ, Option}
 use Rattle.bits.specs.Bits.{pick}
 use Rattle.reads.specs.Program.{Outcome, reached, stopped}
 use Rattle.attributes.specs.Attributes.{settled_part}
-use Rattle.attributes.specs.declared.Decoded.{Decoded}
 use Rattle.attributes.specs.declared.MemoryClass.{MemoryClass}
 use Rattle.attributes.specs.declared.MemoryClass.TheVariants as C
 use Rattle.descriptor.specs.declared.entry.FaultKind.{FaultKind}
@@ -55,7 +55,7 @@ unfoldable pub outcome : {A : Type 0} → Stage → A → End → Outcome Stop A
 outcome s v e = pick (passed e.ending) (reached v) (stopped (stop_by s e.address e.level e.ending))
 
 -- what one stage makes of its input, if `decoded` says what a leaf's descriptor is decoded to
-abbrev pub ended : Stage → (decoded : ℕ → Decoded) → End → Outcome Stop Output
+abbrev pub ended : Stage → (decoded : ℕ → Option Attributes) → End → Outcome Stop Output
 ended s decoded e = outcome s (record { address = e.address; attributes = settled_part (decoded e.word); level = e.level }) e
 
 -- ---- turns

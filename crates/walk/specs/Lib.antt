@@ -1,5 +1,9 @@
+pub mod Root
 pub mod Walk
+pub mod Checked
 pub mod Checks
 pub mod Stage2
 pub mod Ends
 pub mod Calls
+pub mod Starts
+pub mod Prepared

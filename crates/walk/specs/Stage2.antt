@@ -11,17 +11,16 @@ use Rattle.descriptor.specs.Permission.{stage2_permits}
 use Rattle.descriptor.specs.declared.entry.FaultKind.TheVariants.{Translation}
 use Rattle.walk.specs.declared.stop.Stage.TheVariants.{Two}
 use Rattle.walk.specs.declared.table.Leaf.{Leaf}
-use Rattle.walk.specs.declared.table.Root.{Root}
-use Rattle.walk.specs.declared.table.Root.TheVariants.{Unusable}
+use Rattle.walk.specs.Root.{Root, unusable}
 use Rattle.walk.specs.declared.check.Output.{Output}
-use Rattle.walk.specs.declared.check.Checked.{Checked}
+use Rattle.walk.specs.Checked.{Checked}
 use Rattle.walk.specs.declared.stage2.Stage2.{Stage2}
 use Rattle.walk.specs.Walk.{Reading, unsettled, walk_from}
 use Rattle.walk.specs.Checks.{settled, misaligned, permitted, give}
 
 -- the root for an IPA, whose bits 47 down to the input size must be 0 (01, Walk, input size)
 abbrev pub root2_at : Stage2 → ℕ → Root
-root2_at s ipa = pick (beyond ipa s.inputsize) (Unusable Translation 0) s.root
+root2_at s ipa = pick (beyond ipa s.inputsize) (unusable Translation 0) s.root
 
 -- CD counts for data and on-walk, ID for a fetch's own walk (01, Attributes, stage 2)
 abbrev pub uncached2 : Stage2 → Access → (is_on_walk : Bool) → Bool

@@ -1,11 +1,9 @@
 -- The table walk of one stage, over any geometry (01, Walk). Arm's pseudocode has it as AArch64.TranslationTableWalk.
 -- Assumes nothing.
-use Rattle.std.specs.Prelude.{ℕ, zero, suc, ◌+◌, ◌-◌, ◌*◌}
+use Rattle.std.specs.Prelude.{ℕ, zero, suc, ◌+◌, ◌-◌, ◌*◌, Option, Some, None, Ok, Err}
 use Rattle.bits.specs.Bits.{field}
 use Rattle.reads.specs.Program.{Reader, stage_1, stage_2, Request, Program, done, stop, note, ask, bind}
 use Rattle.descriptor.specs.Entry.{shift, decode, nothing, inherit}
-use Rattle.reads.specs.declared.Read.{Read}
-use Rattle.reads.specs.declared.Read.TheVariants.{Absent, Word}
 use Rattle.descriptor.specs.declared.entry.Geometry.{Geometry}
 use Rattle.descriptor.specs.declared.entry.FaultKind.{FaultKind}
 use Rattle.descriptor.specs.declared.entry.FaultKind.TheVariants.{Translation}
@@ -17,8 +15,7 @@ use Rattle.walk.specs.declared.stop.Stage.TheVariants.{One, Two}
 use Rattle.walk.specs.declared.stop.Stop.{Stop}
 use Rattle.walk.specs.declared.stop.Stop.TheVariants as S
 use Rattle.walk.specs.declared.table.Leaf.{Leaf}
-use Rattle.walk.specs.declared.table.Root.{Root}
-use Rattle.walk.specs.declared.table.Root.TheVariants.{Unusable, Usable}
+use Rattle.walk.specs.Root.{Root}
 
 -- a program of an access
 abbrev pub Reading : Type 0 → Type 0
@@ -43,9 +40,9 @@ abbrev pub entry_address : Geometry → ℕ → ℕ → ℕ → ℕ → ℕ
 entry_address g n j table input = table + 8 * field input (shift g n) j
 
 -- a word goes on, an absent descriptor stops
-unfoldable pub if_present : {A : Type 0} → Stop → (ℕ → Reading A) → Read → Reading A
-if_present e k Absent = stop e
-if_present e k (Word x) = k x
+unfoldable pub if_present : {A : Type 0} → Stop → (ℕ → Reading A) → Option ℕ → Reading A
+if_present e k None = stop e
+if_present e k (Some x) = k x
 
 -- stage 1's tables impose on what lies below them
 abbrev pub inherit_at : Stage → Inherited → ℕ → Inherited
@@ -72,5 +69,5 @@ walk place g s input (suc n) j table h =
 
 -- the walk from a root
 unfoldable pub walk_from : (place : ℕ → Reading ℕ) → Stage → (input : ℕ) → Root → Reading Leaf
-walk_from place s input (Unusable kind level) = stop (fault kind s level)
-walk_from place s input (Usable t) = walk place t.geometry s input t.levels t.bits t.base nothing
+walk_from place s input (Err u) = stop (fault u.kind s u.level)
+walk_from place s input (Ok t) = walk place t.geometry s input t.levels t.bits t.base nothing

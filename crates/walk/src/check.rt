@@ -1,5 +1,4 @@
 // What the checks after a walk leave of it, as the definitions say it. Code has the same in the words of an end.
-use crate::stop::Stop;
 use attributes::Attributes;
 
 // What one stage makes of its input.
@@ -8,10 +7,4 @@ pub struct Output {
     pub address: u64,
     pub attributes: Attributes,
     pub level: u64,
-}
-
-#[derive(Clone, Copy)]
-pub enum Checked {
-    Passed(Output),
-    Stopped(Stop),
 }

@@ -32,16 +32,7 @@ pub struct End {
 pub fn passed(e: Ending) -> bool
     ensures { result ≡ Ends.passed e }
 {
-    match e {
-        Ending::Passed => true,
-        Ending::Translation => false,
-        Ending::AddressSize => false,
-        Ending::AccessFlag => false,
-        Ending::Permission => false,
-        Ending::Misaligned => false,
-        Ending::Absent => false,
-        Ending::Unsettled => false,
-    }
+    matches!(e, Ending::Passed)
 }
 
 // An end without an output.
@@ -60,29 +51,13 @@ pub fn stopped(ending: Ending, level: u64, count: usize) -> End
 pub fn leads_down(t: Turn) -> bool
     ensures { result ≡ Ends.leads_down t }
 {
-    match t {
-        Turn::Down => true,
-        Turn::Leaf => false,
-        Turn::Translation => false,
-        Turn::AddressSize => false,
-        Turn::AccessFlag => false,
-        Turn::Permission => false,
-        Turn::Unsettled => false,
-    }
+    matches!(t, Turn::Down)
 }
 
 pub fn is_leaf(t: Turn) -> bool
     ensures { result ≡ Ends.is_leaf t }
 {
-    match t {
-        Turn::Down => false,
-        Turn::Leaf => true,
-        Turn::Translation => false,
-        Turn::AddressSize => false,
-        Turn::AccessFlag => false,
-        Turn::Permission => false,
-        Turn::Unsettled => false,
-    }
+    matches!(t, Turn::Leaf)
 }
 
 // What a turn ends a walk with, if it leads neither down nor to a leaf.

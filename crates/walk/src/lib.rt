@@ -3,6 +3,7 @@
 
 pub mod check;
 pub mod end;
+pub mod prepared;
 pub mod stage2;
 pub mod start;
 pub mod stop;

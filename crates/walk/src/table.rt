@@ -10,12 +10,15 @@ pub struct Table {
     pub base: u64,
 }
 
-// Where a walk starts, or the fault that every walk from here meets before it reads. Code has it in words, as a Start.
+// The fault that every walk from a root meets before it reads.
 #[derive(Clone, Copy)]
-pub enum Root {
-    Unusable { kind: FaultKind, level: u64 },
-    Usable(Table),
+pub struct RootFault {
+    pub kind: FaultKind,
+    pub level: u64,
 }
+
+// Where a walk starts, if it does. Code has it in words, as a Start.
+pub type Root = Result<Table, RootFault>;
 
 // Where a walk ends: its descriptor, which leaves the input's lowest shift bits as they are.
 #[derive(Clone, Copy)]

@@ -8,7 +8,7 @@ use Rattle.accesses.proofs.Runs.{runs_next, runs_left, runs_ended, runs_none}
 use Rattle.accesses.proofs.each.Goals as goal
 
 pub loop-i-preserved : goal.loop-i-preserved
-loop-i-preserved c =
+loop-i-preserved g c =
     let less = c.loop-i-test.true in
     let ran = c.access-last.ensures.0 in (
       filling_next _ _ _ _ _ _ less (c.output_of.ensures ∙ ran_output _ _ _ _ _ ran) c.loop-i.invariant.0,
@@ -17,12 +17,12 @@ loop-i-preserved c =
     )
 
 pub returns : goal.returns
-returns c =
+returns g c =
     let p = c.requires in
     let over = c.loop-i-test.false in
     record {
-      placed = filling_done _ _ _ _ _ over p.5 c.loop-i.invariant.0;
-      numbered = filling_done _ _ _ _ _ over p.6 c.loop-i.invariant.1;
+      placed = filling_done _ _ _ _ _ over p.2 c.loop-i.invariant.0;
+      numbered = filling_done _ _ _ _ _ over p.3 c.loop-i.invariant.1;
       left = runs_left _ _ _ _ _ _ c.loop-i.invariant.2 over;
       ended = runs_ended _ _ _ _ _ _ c.loop-i.invariant.2 over;
       none = runs_none _ _ _ _ _ _ c.loop-i.invariant.2 over;

@@ -1,12 +1,10 @@
 -- `each` meets its contract: what is stored from an address on is what is stored from the first.
 -- Assumes nothing.
-use Prim.Native.Nat.{ℕ, ◌-◌}
-use lib.ListN.{length}
+use Prim.Native.Nat.{ℕ}
 use Rattle.access.specs.declared.Access.{Access}
-use Rattle.capture.specs.Calls.{captured}
-use Rattle.walk.specs.Calls.{stage2_of}
+use Rattle.walk.specs.Prepared.{stage2_of}
 use Rattle.walk.specs.declared.end.End.{End}
-use Rattle.stages.specs.Calls.{stage1_of}
+use Rattle.stages.specs.Prepared.{stage1_of}
 use Rattle.stages.specs.declared.both.Arrival.{Arrival}
 use Rattle.stages.specs.declared.both.By.TheVariants.{First}
 use Rattle.answers.specs.Answers.{number}
@@ -24,10 +22,7 @@ abbrev pub unasked : End → Arrival
 unasked e = record { by = First; end = e; ipa = 0; left1 = 0; word1 = 0 }
 
 abbrev pub invariant-loop-i : goal.invariant-loop-i
-invariant-loop-i l =
-    Filling (λ x. output_of (answer_of (captured l.front l.parts l.file) (stage1_of l.p) (stage2_of l.q) (to l.kind l.el l.size x))) l.addresses l.initial.outputs l.outputs l.i
-    × Filling (λ x. number (answer_of (captured l.front l.parts l.file) (stage1_of l.p) (stage2_of l.q) (to l.kind l.el l.size x))) l.addresses l.initial.numbers l.numbers l.i
-    × Runs (captured l.front l.parts l.file) (stage1_of l.p) (stage2_of l.q) (to l.kind l.el l.size) l.addresses l.initial.log l.log l.last l.i
-
-abbrev pub decreases-loop-i : goal.decreases-loop-i
-decreases-loop-i l = length l.addresses - l.i
+invariant-loop-i g l =
+    Filling (λ x. output_of (answer_of (g.M.Memory.finds l.memory) (stage1_of l.p) (stage2_of l.q) (to l.kind l.el l.size x))) l.addresses l.initial.outputs l.outputs l.i
+    × Filling (λ x. number (answer_of (g.M.Memory.finds l.memory) (stage1_of l.p) (stage2_of l.q) (to l.kind l.el l.size x))) l.addresses l.initial.numbers l.numbers l.i
+    × Runs (g.M.Memory.finds l.memory) (stage1_of l.p) (stage2_of l.q) (to l.kind l.el l.size) l.addresses l.initial.log l.log l.last l.i

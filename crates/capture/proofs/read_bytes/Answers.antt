@@ -3,7 +3,7 @@
 use Rattle.std.proofs.Common.{◌≡◌, ℕ, ◌+◌, ◌-◌, ◌%◌, ◌^◌, ◌<◌, ◌≤◌, Bool, true, false, leb, length, refl, ap, ◌∙◌, arith, le-leb, leb-true}
 use borrow.Author.Tests.{lt-leb}
 use Rattle.bits.specs.Bits.{pick}
-use Rattle.reads.specs.declared.Read.TheVariants.{Word}
+use Rattle.std.specs.Prelude.{Some}
 use Rattle.capture.specs.Capture.{within}
 use Rattle.capture.proofs.Spelled.{eight}
 use Rattle.capture.proofs.read_bytes.Goals as goal
@@ -24,17 +24,14 @@ pub returns-then-at-room : goal.returns-then-at-room
 unfolding within pick
 returns-then-at-room c =
     let a = c.args in
-    let at = c.wrapping_sub_u64-at.result in
-    let place = c.wrapping_add_u64-place.result in
+    let past : length a.bytes.now - 7 ≤ (a.address + (2 ^ 64 - a.base)) % 2 ^ 64 = omega arith in
+    simp (outside a.base (length a.bytes.now) a.address _ (omega arith) (omega arith) past)
+
+pub returns : goal.returns
+unfolding within pick
+returns c =
+    let a = c.args in
     let h : a.base ≤ a.address = omega arith in
     let k : a.address + 8 ≤ a.base + length a.bytes.now = omega arith in
-    let e : place ≡ a.address - a.base = omega arith in
-    simp le-leb (ap Word (c.word.ensures ∙ rw e (eight (a.address - a.base) a.bytes.now (omega arith))))
-
-pub returns-else-at-room : goal.returns-else-at-room
-unfolding within pick
-returns-else-at-room c =
-    let a = c.args in
-    let at = c.wrapping_sub_u64-at.result in
-    let h : length a.bytes.now - 7 ≤ at = omega arith in
-    simp (outside a.base (length a.bytes.now) a.address at c.wrapping_sub_u64-at.ensures.value (omega arith) h)
+    let e : (a.address + a.back) % 2 ^ 64 ≡ a.address - a.base = omega arith in
+    simp le-leb (ap Some (c.word.ensures ∙ rw e (eight (a.address - a.base) a.bytes.now (omega arith))))

@@ -1,18 +1,18 @@
 -- `read_parts` meets its contract: it reads where the descriptor stands.
 -- Assumes nothing.
 use Rattle.std.proofs.Common.{ap, ◌∙◌}
-use Rattle.reads.specs.declared.Read.TheVariants.{Word}
-use Rattle.capture.proofs.Searches.{ordered, none_placed, one_placed}
+use Rattle.std.specs.Prelude.{Some}
+use Rattle.capture.proofs.Searches.{rising, nowhere, at_spot}
 use Rattle.capture.proofs.read_parts.Goals as goal
 
-pub find-place-requires : goal.find-place-requires
-find-place-requires c = ordered c.requires
+pub find-requires : goal.find-requires
+find-requires c = rising c.requires
+
+pub returns-in_err-spot : goal.returns-in_err-spot
+returns-in_err-spot c = λ reader. c.from_residual.ensures ∙ nowhere (c.find.ensures _ c.requires) c.in_err-spot.was reader
 
 pub word_at-requires : goal.word_at-requires
-word_at-requires c = (c.find-place.ensures c.args.file.now c.requires).inside _ c.in-At.is
+word_at-requires c = (c.find.ensures _ c.requires).inside _ c.in_ok-spot.was
 
-pub returns-in-Nowhere : goal.returns-in-Nowhere
-returns-in-Nowhere c = λ reader. none_placed (c.find-place.ensures _ c.requires) c.in-Nowhere.is reader
-
-pub returns-in-At : goal.returns-in-At
-returns-in-At c = λ reader. ap Word c.word_at.ensures ∙ one_placed (c.find-place.ensures _ c.requires) c.in-At.is reader
+pub returns : goal.returns
+returns c = λ reader. ap Some c.word_at.ensures ∙ at_spot (c.find.ensures _ c.requires) c.in_ok-spot.was reader

@@ -1,11 +1,13 @@
--- `front_of` meets its contract: the largest of the parts from a place on, from the last to the first.
+-- `front_of` meets its contract: of three parts the larger is the same whichever two are taken first.
 -- Assumes nothing.
-use native.Mathlib.Omega.{arith}
-use Rattle.layout.proofs.front_of.Invariants.{none, more}
+use Rattle.std.proofs.Common.{◌≡◌, rules, ◌∙◌}
+use Rattle.std.specs.List.{reduce}
+use Rattle.std.proofs.iter.runs.Made.{chains}
+use Rattle.layout.specs.Calls.{larger}
+use Rattle.layout.proofs.Front.{reduced}
 use Rattle.layout.proofs.front_of.Goals as goal
 
-pub loop-i-init : goal.loop-i-init
-loop-i-init c = none _
-
-pub loop-i-preserved : goal.loop-i-preserved
-loop-i-preserved c = more _ (omega (arith, c.loop-i-test.true)) c.loop-i.invariant c.part_at.ensures c.larger-largest.ensures
+pub returns : goal.returns
+returns c =
+    let e : c.reduce.result ≡ reduce larger c.args.parts.now = search (rules, chains) in
+    c.unwrap_or.ensures ∙ rw e (reduced c.args.parts.now)

@@ -1,77 +1,51 @@
--- `lay_out` meets its contract: of an accepted file the first words are those of its banks, and then those of its parts.
+-- `lay_out` meets its contract: the parts that it writes are those of the banks that it read.
 -- Assumes nothing.
-use borrow.Author.Rules.{rules}
-use borrow.Author.Tests.{leb-true}
-use mathlib.Core.Path.{◌≡◌, ap, ◌∙◌}
-use mathlib.Core.Bool.{Bool, true, ◌&&◌}
-use mathlib.Core.List.{List, map}
-use Prim.Native.Nat.{ℕ, ◌-◌, ◌*◌, ◌≤◌}
-use native.Mathlib.Nat.{sub-zero}
-use native.Mathlib.Omega.{arith}
-use lib.Dec.{leb}
-use lib.ListN.{length, take, length-map}
-use lib.Seq.{sets, length-sets}
-use Rattle.bits.proofs.Tests.{and_left, and_right, by_pick, pick_true}
+use Rattle.std.proofs.Common.{◌≡◌, length, take, refl, sym, ap, ◌∙◌, arith, rules, true≢false, length-take-le}
+use Rattle.std.proofs.lemmas.List.{length-map}
 use Rattle.capture.specs.Capture.{part, any_high}
 use Rattle.capture.specs.Calls.{ahead}
-use Rattle.capture.specs.declared.Part.{Part}
-use Rattle.layout.specs.declared.Said.{Said}
-use Rattle.layout.specs.Elf.{headed, banks, most_banks, parts, is_core}
-use Rattle.layout.specs.Calls.{said_words, part_words, banks_on, banks_by, front_of, front_by, Reads}
-use Rattle.layout.proofs.Parts.{parts_by_lem, banks_by_lem, said_first, banks_first, parts_first}
+use Rattle.layout.specs.Elf.{banks, parts}
+use Rattle.layout.specs.Calls.{front_of}
+use Rattle.layout.proofs.Written.{first, refused, accepted, counted, few, used}
 use Rattle.layout.proofs.lay_out.Goals as goal
 
-bounded : (file : List ℕ) → is_core file ≡ true → (headed file && leb (length (banks file)) most_banks) ≡ true
-unfolding is_core
-bounded file e = and_left _ _ e
+pub returns-in_err-count : goal.returns-in_err-count
+returns-in_err-count c =
+    let no = refused c.read_headers.ensures c.in_err-count.was in
+    rw c.from_residual.ensures (record { readable = sym no; high = tt; front = tt; count = tt; written = λ e. absurd (true≢false (sym e ∙ no)); refused = λ e. refl })
 
-module _ (file words words₁ : List ℕ) {r : Said} (read : Reads file words r words₁) where
-  few : r.count ≤ 64
-  few =
-      rw read.count
-      (by_pick (λ n. n ≤ 64) (is_core file) (length (banks file)) 0
-      (λ e. leb-true _ _ (and_right (headed file) _ (bounded file e)))
-      (λ e. omega arith))
+pub slice_bounds-banks-end : goal.slice_bounds-banks-end
+slice_bounds-banks-end c = let h = few c.read_headers.ensures c.in_ok-count.was in omega (arith, c.read_headers.auto.banks)
 
-  module _ (room : 192 ≤ length words) (e : is_core file ≡ true) where
-    counted : r.count ≡ length (banks file)
-    counted = read.count ∙ pick_true _ _ _ e
+pub slice_bounds-banks-end-2 : goal.slice_bounds-banks-end-2
+slice_bounds-banks-end-2 c =
+    let h = few c.read_headers.ensures c.in_ok-count.was in
+    sym (length-take-le _ c.read_headers.new.banks (omega (arith, c.read_headers.auto.banks)))
 
-    small : 3 * length (banks file) ≤ length words
-    small = omega (arith, few, counted)
+pub slice_bounds-front_of-end : goal.slice_bounds-front_of-end
+slice_bounds-front_of-end c = let h = few c.read_headers.ensures c.in_ok-count.was in omega (arith, c.keep.auto.parts)
 
-    said : words₁ ≡ sets words 0 (said_words (banks file))
-    said = read.written ∙ pick_true _ _ _ (bounded file e)
-
-    high : {h : Bool} → h ≡ any_high (banks_by (take (3 * r.count - 0) words₁)) → h ≡ any_high (banks file)
-    high p = rw (sub-zero (3 * r.count), said, counted, said_first words (banks file) small, banks_by_lem (banks file)) at p
-
-    module _ (words₂ : List ℕ) (w : words₂ ≡ sets words₁ 0 (part_words (map (part (length file)) (banks_on words₁ 0 r.count)))) where
-      laid : take (3 * length (banks file)) words₂ ≡ part_words (parts file)
-      laid =
-          let n : length (parts file) ≡ length (banks file) = length-map (banks file) (part (length file)) in
-          let k : length words₁ ≡ length words = ap length said ∙ length-sets words 0 (said_words (banks file)) in
-          let b : banks_on words₁ 0 r.count ≡ banks file = rw (said, counted) (banks_first words (banks file) small) in
-          let p = parts_first words₁ (parts file) (omega (arith, n, k, small)) in
-          rw (w, b) (rw n at p)
-
-      front : {p : Part} → p ≡ front_by (take (3 * r.count - 0) words₂) → p ≡ front_of (parts file)
-      front p = rw (sub-zero (3 * r.count), counted, laid, parts_by_lem (parts file)) at p
-
-pub overflow_mul-end : goal.overflow_mul-end
-overflow_mul-end c = let h = few _ _ _ c.read_headers-banks.ensures in search rules
-
-pub slice_bounds-any_high-end : goal.slice_bounds-any_high-end
-slice_bounds-any_high-end c = let h = few _ _ _ c.read_headers-banks.ensures in search rules
+pub slice_bounds-front_of-end-2 : goal.slice_bounds-front_of-end-2
+slice_bounds-front_of-end-2 c =
+    let h = few c.read_headers.ensures c.in_ok-count.was in
+    sym (length-take-le _ c.keep.new.parts (omega (arith, c.keep.auto.parts)))
 
 pub returns : goal.returns
 returns c =
-    let read = c.read_headers-banks.ensures in
-    let room = c.before.before.before.before.requires in
+    let file = c.args.file.now in
+    let read = c.read_headers.ensures in
+    let yes = accepted read c.in_ok-count.was in
+    let count = counted read c.in_ok-count.was in
+    let few = few read c.in_ok-count.was in
+    let said = used read c.in_ok-count.was (search rules) in
+    let n : length (parts file) ≡ length (banks file) = length-map (banks file) (part (length file)) in
+    let kept : take c.in_ok-count.count c.keep.new.parts ≡ parts file =
+    rw (c.keep.ensures, said) (first (parts file) c.args.parts.now c.in_ok-count.count (count ∙ sym n) (omega (arith, n, count, few))) in
     record {
-      readable = read.readable;
-      high = λ e. high _ _ _ read room e c.any_high-high.ensures;
-      front = λ e. c.ahead.ensures ∙ ap ahead (front _ _ _ read room e _ c.keep.ensures c.front_of.ensures);
-      count = counted _ _ _ read room;
-      written = λ e. laid _ _ _ read room e _ c.keep.ensures;
+      readable = sym yes;
+      high = c.any_high.ensures ∙ ap any_high said;
+      front = c.new.ensures ∙ ap ahead (c.front_of.ensures ∙ ap front_of kept);
+      count = count;
+      written = λ e. rw count at kept;
+      refused = λ e. absurd (true≢false (sym yes ∙ e));
     }

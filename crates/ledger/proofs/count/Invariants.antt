@@ -1,12 +1,7 @@
--- `count` meets its contract: after i turns each counter is how many of the first i numbers are below its bound, which a word holds.
+-- `count` meets its contract: after so many turns each counter is how many of the numbers so far are below its bound, which a word holds.
 -- Assumes nothing.
-use Prim.Native.Nat.{◌-◌}
-use lib.ListN.{length}
 use Rattle.ledger.proofs.Figures.{Counting}
 use Rattle.ledger.proofs.count.Given as goal
 
-abbrev pub invariant-loop-i : goal.invariant-loop-i
-invariant-loop-i l = Counting l.numbers l.below1 l.below6 l.below7 l.below8 l.i
-
-abbrev pub decreases-loop-i : goal.decreases-loop-i
-decreases-loop-i l = length l.numbers - l.i
+abbrev pub invariant-loop-number : goal.invariant-loop-number
+invariant-loop-number l = Counting l.numbers l.below1 l.below6 l.below7 l.below8 l.number-index

@@ -16,4 +16,4 @@ pub returns-else-start-lt0 : goal.returns-else-start-lt0
 unfolding levels_below
 returns-else-start-lt0 c =
     let n = natural _ c.ranges.start c.if-start-lt0.false in
-    c.less.ensures ∙ rw (to_z-of_z c.ranges.start, n.2)
+    c.saturating_sub.ensures ∙ rw (to_z-of_z c.ranges.start, n.2)

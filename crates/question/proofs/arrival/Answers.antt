@@ -6,7 +6,7 @@ use Prim.Native.Nat.{ℕ, ◌^◌, ◌<◌}
 use Rattle.bits.specs.Bits.{bit}
 use Rattle.reads.specs.Program.{Request}
 use Rattle.reads.specs.Ran.{Ran}
-use Rattle.reads.specs.declared.Read.{Read}
+use Rattle.std.specs.Prelude.{Option}
 use Rattle.access.specs.declared.Access.{Access}
 use Rattle.walk.specs.declared.stage2.Stage2.{Stage2}
 use Rattle.stages.specs.Stages.{access}
@@ -22,7 +22,7 @@ use Rattle.regime.proofs.Narrowed.{access_sided, arrived_ranged}
 use Rattle.question.proofs.arrival.Goals as goal
 
 -- the access by the stages as they were prepared is the access
-ran_by : (m : Request → Read) (r : El2) (g : El1) (a : Access) (log log' : List ℕ) (last : Arrival) (s1 : Stage1) (s2 : Stage2) →
+ran_by : (m : Request → Option ℕ) (r : El2) (g : El1) (a : Access) (log log' : List ℕ) (last : Arrival) (s1 : Stage1) (s2 : Stage2) →
     settings r g ≡ 0 → a.address < 2 ^ 64 → s1 ≡ sided1 (bit a.address 55) r g → s2 ≡ narrowed2 r →
     Ran m (access s1 s2 a) log 0 (arrived s1 s2 a last) last.end.count log' →
     Ran m (access (stage1 r g) (stage2 r) a) log 0 (arrived (stage1 r g) (stage2 r) a last) last.end.count log'
@@ -31,5 +31,5 @@ ran_by m r g a log log' last s1 s2 accepted fits one two ran =
     rw (← access_sided r g accepted a fits, ← arrived_ranged r g s.lower s.upper a last) (rw (one, two) at ran)
 
 pub returns : goal.returns
-returns c =
-    ran_by _ _ _ c.args.a _ _ _ _ _ c.requires.0 c.prepared1_at-p.ensures.2 c.prepared1_at-p.ensures.0 c.prepared2-q.ensures.0 c.access.ensures.0
+returns g c =
+    ran_by _ _ _ c.args.a.access _ _ _ _ _ c.requires.0 c.prepared1_at-p.ensures.1 c.prepared1_at-p.ensures.0 c.prepared2-q.ensures c.access.ensures.0

@@ -1,30 +1,18 @@
 -- `over_banks` meets its contract: what the file has of its banks is read, and a file that is not accepted is refused.
 -- Assumes nothing.
-use borrow.Author.Rules.{rules}
-use borrow.Author.Tests.{not-true, not-false}
-use mathlib.Core.Path.{sym, ◌∙◌}
-use native.Mathlib.Omega.{arith}
-use Prim.Native.Nat.{◌*◌, ◌≤◌}
-use Rattle.layout.proofs.Core.{few, held}
+use Rattle.std.proofs.Common.{sym, ◌∙◌}
+use Rattle.std.proofs.lemmas.Result.{err_from_is_err_and}
+use Rattle.answers.proofs.Tried.{had, lacked}
 use Rattle.question.proofs.Telling.{core_tells, core_refused}
 use Rattle.question.proofs.over_banks.Goals as goal
 
-pub returns-then-not-laid : goal.returns-then-not-laid
-returns-then-not-laid c = core_refused _ _ _ _ _ (sym c.lay_out-laid.ensures.readable ∙ not-true _ c.if-not-laid.true)
-
-pub overflow_mul-end : goal.overflow_mul-end
-overflow_mul-end c = omega (arith, few c.lay_out-laid.ensures (not-false _ c.if-not-laid.false))
-
-pub slice_bounds-over-end : goal.slice_bounds-over-end
-slice_bounds-over-end c =
-    let h = few c.lay_out-laid.ensures (not-false _ c.if-not-laid.false) in
-    let k : 3 * c.lay_out-laid.result.count ≤ 192 = omega (arith, h) in
-    search rules
-
-pub over-requires : goal.over-requires
-over-requires c = held c.lay_out-laid.ensures (not-false _ c.if-not-laid.false)
+pub returns-in_err-memory : goal.returns-in_err-memory
+returns-in_err-memory c =
+    let p = err_from_is_err_and c.from_residual.result c.from_residual.ensures.1 in
+    let none = lacked c.core.result _ _ (sym c.ok_or.ensures.value ∙ c.in_err-memory.was) in
+    rw (p.1, p.2, none.1) (core_refused _ _ _ _ _ (sym (rw none.0 at c.core.ensures.found)))
 
 pub returns : goal.returns
 returns c =
-    let l = c.lay_out-laid.ensures in
-    core_tells _ _ _ _ l (not-false _ c.if-not-laid.false) c.over.ensures
+    let some = had c.core.result _ _ (sym c.ok_or.ensures.value ∙ c.in_ok-memory.was) in
+    core_tells _ _ _ _ _ (sym (rw some at c.core.ensures.found)) (rw some at c.core.ensures.high) (c.over.ensures _ (rw some at c.core.ensures.finds))

@@ -1,13 +1,15 @@
--- `translate` meets its contract: a raw capture is one part, the whole of it.
+-- `translate` meets its contract, by the memory of a raw capture.
 -- Assumes nothing.
 use Rattle.answers.proofs.Counts.{counts}
 use Rattle.answers.proofs.Framing.{framing}
 use Rattle.question.proofs.Telling.{raw_tells}
 use Rattle.question.proofs.translate.Goals as goal
 
-pub returns : goal.returns
-returns c = record {
-  told = raw_tells _ _ _ _ c.args.base c.args.bytes.now c.whole-whole.ensures c.ends_high-high.ensures c.over.ensures;
-  counted = counts _ _ _ _ _ _;
-  framed = λ other. framing _ _ _ _ _ _ _;
-}
+pub returns-clause-told : goal.returns-clause-told
+returns-clause-told c = raw_tells _ _ _ _ c.args.base c.args.bytes.now c.raw.ensures.high (c.over.ensures _ c.raw.ensures.finds)
+
+pub returns-clause-counted : goal.returns-clause-counted
+returns-clause-counted c = counts _ _ _ _ _ _
+
+pub returns-clause-framed : goal.returns-clause-framed
+returns-clause-framed c = λ other. framing _ _ _ _ _ _ _

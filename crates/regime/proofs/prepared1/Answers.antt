@@ -1,32 +1,13 @@
 -- `prepared1` meets its contract, by those of what it calls.
 -- Assumes nothing.
-use mathlib.Core.Path.{◌∙◌}
-use Rattle.regime.specs.Calls.{SoundHalf}
-use Rattle.regime.proofs.Settings.{lower_sound, upper_sound}
-use Rattle.regime.proofs.Ready.{range_narrow, words_are, words_sound}
+use Rattle.regime.proofs.Settings.{pamax_small, lower_sound, upper_sound}
 use Rattle.regime.proofs.prepared1.Goals as goal
 
-pub start1-requires : goal.start1-requires
-start1-requires c =
-    let low : (SoundHalf c.lower_half-low.result) = rw c.lower_half-low.ensures (lower_sound _ _ c.requires c.stage1_on-on.ensures) in
-    low
+pub started-lower-requires : goal.started-lower-requires
+started-lower-requires c = rw c.lower.ensures (lower_sound _ _ c.requires c.stage1_on-on.ensures)
 
-pub start1-requires-2 : goal.start1-requires-2
-start1-requires-2 c =
-    let high : (SoundHalf c.upper_half-high.result) = rw c.upper_half-high.ensures (upper_sound _ _ c.requires c.stage1_on-on.ensures) in
-    high
+pub started-upper-requires : goal.started-upper-requires
+started-upper-requires c = rw c.upper.ensures (upper_sound _ _ c.requires c.stage1_on-on.ensures)
 
-pub returns : goal.returns
-returns c =
-    let low : (SoundHalf c.lower_half-low.result) = rw c.lower_half-low.ensures (lower_sound _ _ c.requires c.stage1_on-on.ensures) in
-    let high : (SoundHalf c.upper_half-high.result) = rw c.upper_half-high.ensures (upper_sound _ _ c.requires c.stage1_on-on.ensures) in
-    let narrow0 = range_narrow c.output1-output.result _ low in
-    let narrow1 = range_narrow c.output1-output.result _ high in
-    let start0 = c.start1.ensures in
-    let start1 = c.start1-2.ensures in
-    rw c.with_starts.ensures
-    ((
-      words_are _ _ c.requires _ _ narrow0 narrow1 _ _ start0 start1
-          ∙ rw (c.lower_half-low.ensures, c.upper_half-high.ensures, c.output1-output.ensures, c.stage1_on-on.ensures),
-      words_sound _ _ c.requires _ _ narrow0 narrow1 _ _ start0 start1,
-    ))
+pub with_ranges-requires : goal.with_ranges-requires
+with_ranges-requires c = (pamax_small _ _ c.requires, c.started-lower.ensures.1, c.started-upper.ensures.1)

@@ -19,4 +19,4 @@ pub returns : goal.returns
 unfolding root_of pick faulted
 returns c =
     let inside : (let z = c.args in beyond z.register z.geometry.outputsize ≡ false) = let z = c.args in sym (beyond_above z.register z.geometry.outputsize) ∙ ap not (eq-eqb _ _ (rw c.above.ensures at c.if-register-above-ne0.false)) in
-    rw (inside, ← c.table_of.ensures) c.start_at.ensures
+    rw (inside, ← c.table_of.ensures) c.at.ensures

@@ -9,6 +9,6 @@ use Rattle.regime.proofs.table_of.Goals as goal
 
 pub returns : goal.returns
 returns c =
-    let few : (c.less-width.result ≤ 17) = rw c.less-width.ensures c.requires.2.bits in
-    rw (one_shl (3 + c.less-width.result) (omega (arith, few)), and_table c.args.register (3 + c.less-width.result) (omega (arith, few)))
-    (simp (add-one, c.less-width.ensures))
+    let few : (c.saturating_sub-width.result ≤ 17) = rw c.saturating_sub-width.ensures c.requires.2.bits in
+    rw (one_shl (3 + c.saturating_sub-width.result) (omega (arith, few)), and_table c.args.register (3 + c.saturating_sub-width.result) (omega (arith, few)))
+    (simp (add-one, c.saturating_sub-width.ensures))

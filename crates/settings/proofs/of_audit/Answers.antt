@@ -1,19 +1,28 @@
--- `of_audit` meets its contract: the first items decide where one fails, then item 4, then the others. Assumes nothing.
-use mathlib.Core.Path.{refl}
+-- `of_audit` meets its contract: the first items decide where one fails, then item 4, then the others.
+-- Assumes nothing.
+use mathlib.Core.Path.{◌≡◌, refl}
+use mathlib.Core.Bool.{true, false}
 use mathlib.Core.List.{[]}
+use Rattle.std.proofs.lemmas.Result.{err_from_is_err_and}
 use Rattle.bits.specs.Bits.{pick}
-use Rattle.settings.specs.Settings.{first_failing, first_items, audit_settings}
-use Rattle.settings.proofs.Items.{in_order, numbered, returned}
+use Rattle.settings.specs.Settings.{first_failing, first_items, item4_el2, audit_settings}
+use Rattle.settings.proofs.Items.{first_fails, first_hold, numbered}
 use Rattle.settings.proofs.of_audit.Goals as goal
 
-pub returns-then-first-ne0 : goal.returns-then-first-ne0
-unfolding audit_settings first_failing numbered pick
-returns-then-first-ne0 c = rw (in_order (first_items _ []) _ refl, ← c.first_items-first.ensures) (search returned)
+pub returns-in_err-first_items : goal.returns-in_err-first_items
+unfolding audit_settings numbered pick
+returns-in_err-first_items c =
+    let p = err_from_is_err_and c.from_residual.result c.from_residual.ensures.1 in
+    rw (p.1, p.2) (first_fails _ (first_items c.args.r []) _ refl c.in_err-first_items.ensures)
 
-pub returns-then-item4_el2 : goal.returns-then-item4_el2
+pub returns-then-little_endian : goal.returns-then-little_endian
 unfolding audit_settings first_failing numbered pick
-returns-then-item4_el2 c = rw (in_order (first_items _ []) _ refl, ← c.first_items-first.ensures) (search returned)
+returns-then-little_endian c =
+    let little : (item4_el2 c.args.r) ≡ true = cc in
+    rw (first_hold (first_items c.args.r []) _ refl c.in_ok-first_items.ensures, little) c.last_items.ensures
 
-pub returns-else-item4_el2 : goal.returns-else-item4_el2
+pub returns-else-little_endian : goal.returns-else-little_endian
 unfolding audit_settings first_failing numbered pick
-returns-else-item4_el2 c = rw (in_order (first_items _ []) _ refl, ← c.first_items-first.ensures) (search returned)
+returns-else-little_endian c =
+    let big : (item4_el2 c.args.r) ≡ false = cc in
+    rw (first_hold (first_items c.args.r []) _ refl c.in_ok-first_items.ensures, big)

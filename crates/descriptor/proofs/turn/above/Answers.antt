@@ -11,6 +11,3 @@ overflow_sub-result c = rw (one_shl c.args.size (omega arith)) (omega (arith, po
 
 pub returns-then-size-le48 : goal.returns-then-size-le48
 returns-then-size-le48 c = rw (one_shl c.args.size (omega arith)) (search choices)
-
-pub returns-else-size-le48 : goal.returns-else-size-le48
-returns-else-size-le48 c = search choices

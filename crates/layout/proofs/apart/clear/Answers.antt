@@ -1,20 +1,16 @@
--- `clear` meets its contract: a bank that meets no byte of the range leaves the verdict to those after it.
+-- `clear` meets its contract: each bank decides.
 -- Assumes nothing.
-use Rattle.layout.specs.Elf as Elf
-use Rattle.layout.proofs.Steps.{from_end}
-use Rattle.layout.proofs.apart.clear.Invariants.{step}
+use Rattle.std.proofs.Common.{◌∙◌, not, rules, tests}
+use Rattle.std.proofs.lemmas.Iterator.{YieldsList-from_slice}
+use Rattle.std.proofs.lemmas.Iterator.Search.{all_from_yields_List}
+use Rattle.capture.specs.Capture.{part}
+use Rattle.capture.specs.declared.Bank.{Bank}
+use Rattle.layout.specs.Elf.{meets}
+use Rattle.layout.proofs.Recursions.{clear_is}
 use Rattle.layout.proofs.apart.clear.Goals as goal
 
-pub returns-then-meets : goal.returns-then-meets
-unfolding Elf.clear
-returns-then-meets c =
-    step _ _ _ _ _ _ c.loop-i-test.true c.loop-i.invariant c.part_of.ensures c.meets.ensures c.if-meets.true
-
-pub loop-i-preserved : goal.loop-i-preserved
-unfolding Elf.clear
-loop-i-preserved c =
-    step _ _ _ _ _ _ c.loop-i-test.true c.loop-i.invariant c.part_of.ensures c.meets.ensures c.if-meets.false
-
 pub returns : goal.returns
-unfolding Elf.clear
-returns c = rw (from_end _ _ c.loop-i-test.false) at c.loop-i.invariant
+returns c =
+    let a = c.args in
+    all_from_yields_List (λ (b : Bank). not (meets a.from a.to (part a.total b))) _ _ _ c.all.ensures.ran (YieldsList-from_slice a.banks.now cc) (λ x b q k. search (rules, tests))
+    ∙ clear_is a.from a.to a.total a.banks.now

@@ -3,34 +3,26 @@
 use mathlib.Core.Path.{◌≡◌}
 use mathlib.Core.Bool.{Bool, ◌&&◌}
 use mathlib.Core.List.{List, map}
-use Prim.Native.Nat.{ℕ, ◌+◌, ◌-◌, ◌<◌}
+use Prim.Native.Nat.{ℕ, ◌+◌, ◌<◌}
+use native.Mathlib.Numerals.{add-one}
 use lib.Dec.{leb}
+use lib.ListN.{length, get_or, drop}
+use lib.Seq.{drop-cons}
 use Rattle.capture.specs.Capture.{part}
-use Rattle.capture.specs.Calls.{count_of}
+use Rattle.capture.specs.declared.Bank.{Bank}
 use Rattle.capture.specs.declared.Part.{Part}
-use Rattle.layout.specs.Calls.{bank_by, banks_by, in_order}
-use Rattle.layout.proofs.Steps.{from, from_next, from_start}
+use Rattle.layout.specs.Calls.{in_order}
 use Rattle.layout.proofs.apart.in_order.Given as goal
 
-module _ (total : ℕ) (words : List ℕ) where
-  abbrev pub ordered_on : (end i : ℕ) → Bool
-  ordered_on end i = in_order end (map (part total) (from words i))
+-- the banks from i on decide, where the one before them ends at a place
+abbrev pub Deciding : (total : ℕ) (banks : List Bank) (end i : ℕ) → Type 0
+Deciding total banks end i = in_order end (map (part total) (drop i banks)) ≡ in_order 0 (map (part total) banks)
 
-  -- the banks from i on decide, where the one before them ends at a place
-  abbrev pub Deciding : (end i : ℕ) → Type 0
-  Deciding end i = ordered_on end i ≡ in_order 0 (map (part total) (banks_by words))
+-- what the bank at i leaves, where v is whether it stands past that place
+pub step : (total : ℕ) (banks : List Bank) (end i : ℕ) (d : Bank) → i < length banks → Deciding total banks end i → {p : Part} {v : Bool} →
+    p ≡ part total (get_or banks i d) → leb end p.from ≡ v → (v && in_order p.to (map (part total) (drop (i + 1) banks))) ≡ in_order 0 (map (part total) banks)
+unfolding in_order
+step total banks end i d less here at e = rw add-one (rw (drop-cons banks i d less, ← at, e) at here)
 
-  -- what the bank at i leaves, where v is whether it stands past that place
-  pub step : (end i : ℕ) → i < count_of words → Deciding end i → {p : Part} {v : Bool} → p ≡ part total (bank_by words i) → leb end p.from ≡ v →
-      (v && ordered_on p.to (i + 1)) ≡ in_order 0 (map (part total) (banks_by words))
-  unfolding in_order
-  step end i h d at e = rw (from_next words i h, ← at, e) at d
-
-  pub started : Deciding 0 0
-  started = rw (from_start words)
-
-abbrev pub invariant-loop-i : goal.invariant-loop-i
-invariant-loop-i l = Deciding l.total l.banks l.end l.i
-
-abbrev pub decreases-loop-i : goal.decreases-loop-i
-decreases-loop-i l = l.count - l.i
+abbrev pub invariant-loop-bank : goal.invariant-loop-bank
+invariant-loop-bank l = Deciding l.total l.banks l.end l.bank-index

@@ -1,31 +1,39 @@
 -- `well_laid` meets its contract: its tests are those of the definition, in its order.
 -- Assumes nothing.
+use mathlib.Core.Path.{sym, ◌∙◌}
+use mathlib.Core.Bool.{true≢false}
 use Rattle.bits.proofs.Tests.{told}
 use Rattle.layout.specs.Elf as Elf
-use Rattle.layout.proofs.Steps.{from_start}
 use Rattle.layout.proofs.apart.well_laid.Goals as goal
-
-pub returns-then-not-ascend : goal.returns-then-not-ascend
-unfolding Elf.well_laid
-returns-then-not-ascend c = rw (told c.ascend.ensures c.if-not-ascend.true)
-
-pub returns-then-not-apart : goal.returns-then-not-apart
-unfolding Elf.well_laid
-returns-then-not-apart c =
-    let ordered = told c.ascend.ensures c.if-not-ascend.false in
-    rw (ordered, told c.apart.ensures c.if-not-apart.true)
+use Rattle.layout.proofs.apart.well_laid.Goals.{then-ascend, else-ascend, then-apart, else-apart}
 
 pub returns-then-clear : goal.returns-then-clear
 unfolding Elf.well_laid
-returns-then-clear c =
-    let ordered = told c.ascend.ensures c.if-not-ascend.false in
-    let alone = told c.apart.ensures c.if-not-apart.false in
-    let top = rw from_start at (told c.clear.ensures c.if-clear.true) in
-    rw (ordered, alone, top) (rw from_start at c.clear-then-clear.ensures)
+returns-then-clear c = elim c.if-apart.branch [
+  | then-apart w ↦ elim c.if-ascend.branch [
+    | then-ascend v ↦ rw (
+      told c.ascend.ensures v.if-ascend.true,
+      told v.apart.ensures (sym v.value-is ∙ w.if-apart.true),
+      told w.clear.ensures (sym w.value-is ∙ c.if-clear.true),
+    ) c.clear-then-clear.ensures
+    | else-ascend v ↦ absurd (true≢false (sym w.if-apart.true ∙ v.value-is ∙ v.if-ascend.false))
+  ]
+  | else-apart w ↦ absurd (true≢false (sym c.if-clear.true ∙ w.value-is ∙ w.if-apart.false))
+]
 
 pub returns-else-clear : goal.returns-else-clear
 unfolding Elf.well_laid
-returns-else-clear c =
-    let ordered = told c.ascend.ensures c.if-not-ascend.false in
-    let alone = told c.apart.ensures c.if-not-apart.false in
-    rw (ordered, alone, rw from_start at (told c.clear.ensures c.if-clear.false))
+returns-else-clear c = elim c.if-apart.branch [
+  | then-apart w ↦ elim c.if-ascend.branch [
+    | then-ascend v ↦ rw (
+      told c.ascend.ensures v.if-ascend.true,
+      told v.apart.ensures (sym v.value-is ∙ w.if-apart.true),
+      told w.clear.ensures (sym w.value-is ∙ c.if-clear.false),
+    ) c.if-clear.false
+    | else-ascend v ↦ absurd (true≢false (sym w.if-apart.true ∙ v.value-is ∙ v.if-ascend.false))
+  ]
+  | else-apart w ↦ elim c.if-ascend.branch [
+    | then-ascend v ↦ rw (told c.ascend.ensures v.if-ascend.true, told v.apart.ensures (sym v.value-is ∙ w.if-apart.false)) c.if-clear.false
+    | else-ascend v ↦ rw (told c.ascend.ensures v.if-ascend.false) c.if-clear.false
+  ]
+]

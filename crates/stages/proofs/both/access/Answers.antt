@@ -6,6 +6,6 @@ use Rattle.stages.proofs.Openings.{opens_stopped}
 use Rattle.stages.proofs.both.access.Goals as goal
 
 pub returns-else-passed : goal.returns-else-passed
-returns-else-passed c =
+returns-else-passed g c =
     rw (c.first.ensures, c.stopped.ensures)
     ((opens_stopped _ _ _ _ _ _ c.opening_of-o.ensures (sym c.passed.ensures ∙ c.if-passed.false), omega arith))

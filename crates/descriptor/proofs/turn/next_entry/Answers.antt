@@ -1,9 +1,0 @@
--- `turn::next_entry` meets its contract: the masks keep the table's address and the index.
--- Assumes nothing.
-use native.Mathlib.Omega.{arith}
-use lib.Bits.{and_mask}
-use Rattle.descriptor.proofs.Masks.{and_table}
-use Rattle.descriptor.proofs.turn.next_entry.Goals as goal
-
-pub returns : goal.returns
-returns c = rw (c.requires.0, and_mask, and_table c.args.x c.args.g.grainsize (omega arith))
