@@ -1,10 +1,12 @@
 -- Answers one after the other: entries of a table, and listed tables.
 -- Assumes nothing.
 use mathlib.Core.Path.{◌≡◌, refl, sym, subst, ◌∙◌}
-use mathlib.Core.Bool.{true, false}
+use mathlib.Core.Bool.{true, false, ◌&&◌}
 use mathlib.Core.List.{List, [], ◌∷◌}
-use Prim.Native.Nat.{ℕ, suc, ◌+◌, ◌-◌, ◌*◌, ◌^◌, ◌≤◌, ◌<◌}
+use Prim.Native.Nat.{ℕ, zero, suc, ◌+◌, ◌-◌, ◌*◌, ◌^◌, ◌≤◌, ◌<◌}
 use native.Mathlib.Omega.{arith}
+use lib.Dec.{leb}
+use borrow.Author.Tests.{le-leb, leb-true}
 use lib.ListN.{length, get_or, drop, drop_of_length-le}
 use lib.Seq.{drop-cons}
 use Rattle.std.specs.Prelude.{Some, None, Result, Ok, Err, Option}
@@ -12,8 +14,11 @@ use Rattle.std.specs.Result.{result_err}
 use Rattle.lists.specs.Search.{touches}
 use Rattle.reads.specs.Program.{Request}
 use Rattle.bits.specs.Bits.{pick}
+use Rattle.bits.proofs.Tests.{and_left, and_right}
+use Rattle.capture.specs.Capture.{kept, within, memory}
+use Rattle.capture.specs.declared.Part.{Part}
 use Rattle.descriptor.specs.declared.entry.Geometry.{Geometry}
-use Rattle.audit.specs.Audit.{AuditAnswer, found, or_else, each_entry, audit_table, audit_listed}
+use Rattle.audit.specs.Audit.{AuditAnswer, found, or_else, each_entry, audit_table, audit_listed, missing}
 use Rattle.audit.specs.Calls.{answered, entry_says, entry_lies}
 use Rattle.audit.specs.declared.Finding.{Finding}
 use Rattle.audit.specs.declared.FindingKind.TheVariants.{TouchesGrant}
@@ -60,6 +65,18 @@ module _ (f : ℕ → AuditAnswer) (entries table : ℕ) where
     pub left_none : entries ≤ i → Ok None ≡ each_entry f entries table
     unfolding each_entry
     left_none over = let z : entries - i ≡ 0 = omega arith in rw z at w.rest
+
+-- the entries that the first of some parts has are all there
+module _ (p : Part) (l : List Part) (file : List ℕ) (table : ℕ) where
+  lies_from : (n a : ℕ) → p.address ≤ a → a + 8 * n ≤ p.address + kept p → Ok None ≡ each_entry (entry_lies (memory (p ∷ l) file) table) n a
+  unfolding each_entry or_else missing memory within pick
+  lies_from zero a low high = refl
+  lies_from (suc n) a low high =
+      let room : a + 8 ≤ p.address + kept p = omega (arith, high) in
+      rw (le-leb _ _ low, le-leb _ _ room) (lies_from n (a + 8) (omega (arith, low)) (omega (arith, high)))
+
+  pub all_lie : (n a : ℕ) → (leb p.address a && leb (a + 8 * n) (p.address + kept p)) ≡ true → Ok None ≡ each_entry (entry_lies (memory (p ∷ l) file) table) n a
+  all_lie n a e = lies_from n a (leb-true _ _ (and_left _ _ e)) (leb-true _ _ (and_right _ _ e))
 
 -- ---- a table
 

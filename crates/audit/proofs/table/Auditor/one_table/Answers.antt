@@ -7,26 +7,22 @@ use Rattle.std.proofs.lemmas.Result.{err_from_is_err_and}
 use Rattle.audit.proofs.Calls.{table_missing, table_touched, table_said}
 use Rattle.audit.proofs.table.Auditor.one_table.Goals as goal
 
-pub returns-in_err-each_entry : goal.returns-in_err-each_entry
-returns-in_err-each_entry c =
+pub returns-in_err-whole : goal.returns-in_err-whole
+returns-in_err-whole c =
     let p = err_from_is_err_and c.from_residual.result c.from_residual.ensures.1 in
-    rw (p.1, p.2) (table_missing _ _ _ _ _ _ _ _ (rw c.two_to-entries.ensures at c.in_err-each_entry.ensures))
+    rw (p.1, p.2) (table_missing _ _ _ _ _ _ _ _ (rw c.two_to-entries.ensures at c.in_err-whole.ensures))
 
 pub returns-then-touches : goal.returns-then-touches
 returns-then-touches c =
     rw (c.at.ensures)
-    (table_touched _ _ _ _ _ _ _ (rw c.two_to-entries.ensures at c.in_ok-each_entry.ensures) (rw (← c.two_to-entries.ensures) (sym c.touches.ensures ∙ c.if-touches.true)))
+    (table_touched _ _ _ _ _ _ _ (rw c.two_to-entries.ensures at c.in_ok-whole.ensures) (rw (← c.two_to-entries.ensures) (sym c.touches.ensures ∙ c.if-touches.true)))
 
 pub returns : goal.returns
 returns c =
     let t = c.two_to-entries.ensures in
-    rw t at c.each_entry-2.ensures
-    ∙ table_said _ _ _ _ _ _ _ (rw t at c.in_ok-each_entry.ensures) (rw (← t) (sym c.touches.ensures ∙ c.if-touches.false))
+    rw t at c.each_entry.ensures
+    ∙ table_said _ _ _ _ _ _ _ (rw t at c.in_ok-whole.ensures) (rw (← t) (sym c.touches.ensures ∙ c.if-touches.false))
 
 pub each_entry-requires : goal.each_entry-requires
 each_entry-requires c κs within =
-    (search (⊑_meet, ⊑_static, within.0, within.1.0, within.1.1.0) depth 40 fits 5000, (search rules, (search of_calls, λ at r less said. search rules)))
-
-pub each_entry-requires-2 : goal.each_entry-requires-2
-each_entry-requires-2 c κs within =
     (search (⊑_meet, ⊑_static, within.0, within.1.0, within.1.1.0) depth 40 fits 5000, (search rules, (search of_calls, λ at r less said. search rules)))
