@@ -9,6 +9,7 @@ use Rattle.registers.specs.declared.El2.{El2}
 use Rattle.answers.specs.declared.Refusal.{Refusal}
 use Rattle.answers.specs.declared.Refusal.TheVariants.{HighCapture}
 use Rattle.answers.specs.Refusals.{Ground, refuse, verdict, shared, accepts}
+use Rattle.answers.proofs.Refusals.{accepted_capture}
 
 -- a value that was asked for, there or not
 pub had : {A E : Type 0} (o : Option A) (e : E) (x : A) → ok_or o e ≡ Ok x → o ≡ Some x
@@ -22,13 +23,13 @@ lacked None e e' h = (refl, cc)
 pub same_ok : {E A : Type 0} {x y : A} → ◌≡◌ {A = Result A E} (Ok x) (Ok y) → x ≡ y
 same_ok e = cc
 
-refuse_ok : {A : Type 0} (l : List Ground) (x v : A) → ◌≡◌ {A = Result A Refusal} (refuse Err l (Ok x)) (Ok v) → (verdict l ≡ accepts) × (x ≡ v)
+refuse_ok : {A : Type 0} (l : List Ground) (m : Result A Refusal) (v : A) → refuse Err l m ≡ Ok v → (verdict l ≡ accepts) × (m ≡ Ok v)
 unfolding refuse pick
-refuse_ok [] x v e = (refl, cc)
-refuse_ok {A} (g ∷ l) x v e = by_test g.holds e (refuse_ok l x v)
+refuse_ok [] m v e = (refl, e)
+refuse_ok {A} (g ∷ l) m v e = by_test g.holds e (refuse_ok l m v)
   where
-    by_test : (b : Bool) → ◌≡◌ {A = Result A Refusal} (pick b (Err g.refusal) (refuse Err l (Ok x))) (Ok v) →
-        (◌≡◌ {A = Result A Refusal} (refuse Err l (Ok x)) (Ok v) → (verdict l ≡ accepts) × (x ≡ v)) → (pick b (Err g.refusal) (verdict l) ≡ accepts) × (x ≡ v)
+    by_test : (b : Bool) → ◌≡◌ {A = Result A Refusal} (pick b (Err g.refusal) (refuse Err l m)) (Ok v) →
+        (refuse Err l m ≡ Ok v → (verdict l ≡ accepts) × (m ≡ Ok v)) → (pick b (Err g.refusal) (verdict l) ≡ accepts) × (m ≡ Ok v)
     by_test true h rest = cc
     by_test false h rest = rest h
 
@@ -43,11 +44,12 @@ refuse_err {A} (g ∷ l) x why e = by_test g.holds e (refuse_err l x why)
     by_test false h rest = rest h
 
 module _ {A : Type 0} (r : El2) (g : El1) (kind el size : ℕ) where
+  -- where nothing is refused no bank ends high, and the memory is there
   pub tried_ok : (o : Option A) {v : A} → refuse Err (shared (is_none o) r g kind el size) (ok_or o HighCapture) ≡ Ok v →
       (o ≡ Some v) × (verdict (shared false r g kind el size) ≡ accepts)
-  unfolding refuse pick
-  tried_ok (Some x) {v} e = let z = refuse_ok (shared false r g kind el size) x v e in (cc, z.0)
-  tried_ok None {v} e = cc
+  tried_ok o {v} e =
+      let z = refuse_ok (shared (is_none o) r g kind el size) (ok_or o HighCapture) v e in
+      (had o HighCapture v z.1, rw (accepted_capture (is_none o) r g kind el size z.0) at z.0)
 
   pub tried_err : (o : Option A) {why : Refusal} → refuse Err (shared (is_none o) r g kind el size) (ok_or o HighCapture) ≡ Err why →
       verdict (shared (is_none o) r g kind el size) ≡ Err why

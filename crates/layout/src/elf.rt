@@ -41,9 +41,9 @@ pub(crate) struct Headers {
 
 // How many of some program headers are banks, and where the last of those stands.
 #[derive(Clone, Copy)]
-pub(crate) struct Tally {
-    pub(crate) count: usize,
-    pub(crate) last: usize,
+pub struct Tally {
+    pub count: usize,
+    pub last: usize,
 }
 
 impl Headers {

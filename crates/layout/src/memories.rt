@@ -21,6 +21,7 @@ pub const NO_PARTS: [Part; MOST_BANKS] = [Part {
 pub fn raw<'a>(bytes: &'a [u8], base: u64) -> Option<OnePart<'a>>
     ensures high { is_none result ≡ any_high (Layouts.layout (Layouts.raw base) bytes.now).banks }
     ensures finds { IfSome result (λ v. memory (v.front.part ∷ []) v.file.now ≡ Layouts.captured (Layouts.raw base) bytes.now) }
+    ensures held { IfSome result (λ v. Captures.Held v.front [] v.file.now) }
 {
     OnePart::raw(bytes, base)
 }
