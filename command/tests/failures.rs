@@ -8,6 +8,8 @@ use std::fs::{self, File, OpenOptions};
 use std::io::{Read, Write};
 use std::os::unix::fs::{symlink, MetadataExt, PermissionsExt};
 use std::process::{Command, Stdio};
+use std::thread;
+use std::time::Duration;
 
 const LEDGER: &str = "asked 2 translated 1 faulted 1 absent 0 unsettled 0\n";
 const RESULTS: &str = "address,answer,output\n0x1008,0,0x90008\n0x2000,1,0x0\n";
@@ -35,8 +37,12 @@ fn full() -> File {
 fn closed_pipe() -> Stdio {
     let mut reader = Command::new("true").stdin(Stdio::piped()).spawn().expect("true runs");
     // Taken, or waiting would close it.
-    let pipe = reader.stdin.take().expect("its standard input");
+    let mut pipe = reader.stdin.take().expect("its standard input");
     reader.wait().expect("true ends");
+    // A program that another test is about to start has the reading end too, until it runs.
+    while pipe.write(b" ").is_ok() {
+        thread::sleep(Duration::from_millis(1));
+    }
     pipe.into()
 }
 
